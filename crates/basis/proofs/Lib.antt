@@ -1,0 +1,6 @@
+pub mod Decide
+pub mod Lists
+pub mod Rows
+pub mod Runs
+pub mod Split
+pub mod Sums

@@ -1,0 +1,49 @@
+-- Sums over the numbers below a bound: the first term taken out, terms that are equal, terms of at most 1, and one term that is more.
+use mathlib.Core.Path.{_≡_, refl}
+use mathlib.Core.Logic.{_⊎_, inl, inr}
+use Prim.Native.Nat.{ℕ, zero, suc, _+_, _≤_, _<_}
+use native.Mathlib.Nat.{not-suc-le-zero}
+use native.Mathlib.Omega.{arith}
+use Rattle.basis.specs.Sum.{sum}
+use Rattle.basis.proofs.Decide.{below-suc}
+
+-- the first term, and the sum of the others
+pub sum-first : (f : ℕ → ℕ) (n : ℕ) → sum f (suc n) ≡ f 0 + sum (λ e. f (suc e)) n
+sum-first f zero = omega arith
+sum-first f (suc n) = omega (arith, sum-first f n)
+
+-- sums of equal terms are equal
+pub sum-same : (f g : ℕ → ℕ) (n : ℕ) → ((e : ℕ) → e < n → f e ≡ g e) → sum f n ≡ sum g n
+sum-same f g zero h = refl
+sum-same f g (suc n) h = omega (arith, sum-same f g n (λ e l. h e (omega arith)), h n (omega arith))
+
+-- a sum of terms that are at most 1 is at most their number
+pub sum-le : (f : ℕ → ℕ) (n : ℕ) → ((e : ℕ) → f e ≤ 1) → sum f n ≤ n
+sum-le f zero h = omega arith
+sum-le f (suc n) h = omega (arith, sum-le f n h, h n)
+
+-- where one term is more by x, and the others are equal, so is the sum
+pub sum-changed : (f g : ℕ → ℕ) (n e x : ℕ) → e < n → f e ≡ g e + x → ((d : ℕ) → ¬ (d ≡ e) → f d ≡ g d) → sum f n ≡ sum g n + x
+sum-changed f g zero e x l more others = absurd (not-suc-le-zero l)
+sum-changed f g (suc n) e x l more others = go (below-suc l) (λ h. sum-changed f g n e x h more others)
+  where
+    go : (e ≡ n) ⊎ (e < n) → (e < n → sum f n ≡ sum g n + x) → sum f (suc n) ≡ sum g (suc n) + x
+    go (inl h) rest = omega (arith, rw h at more, sum-same f g n (λ d k. others d (omega arith)))
+    go (inr h) rest = omega (arith, rest h, others n (omega arith))
+
+pub sum-more : (f g : ℕ → ℕ) (n e : ℕ) → e < n → f e ≡ suc (g e) → ((d : ℕ) → ¬ (d ≡ e) → f d ≡ g d) → sum f n ≡ suc (sum g n)
+sum-more f g n e l more others = omega (arith, sum-changed f g n e 1 l (omega (arith, more)) others)
+
+-- each term is at most the sum
+pub term-le : (f : ℕ → ℕ) (n e : ℕ) → e < n → f e ≤ sum f n
+term-le f zero e h = absurd (not-suc-le-zero h)
+term-le f (suc n) e h = go (below-suc h) (λ l. term-le f n e l)
+  where
+    go : (e ≡ n) ⊎ (e < n) → (e < n → f e ≤ sum f n) → f e ≤ sum f (suc n)
+    go (inl k) rest = rw k (omega arith)
+    go (inr k) rest = omega (arith, rest k)
+
+-- a sum of zeros is zero
+pub sum-zero : (f : ℕ → ℕ) (n : ℕ) → ((e : ℕ) → e < n → f e ≡ 0) → sum f n ≡ 0
+sum-zero f zero h = refl
+sum-zero f (suc n) h = omega (arith, sum-zero f n (λ e l. h e (omega arith)), h n (omega arith))

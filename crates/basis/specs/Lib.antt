@@ -1,0 +1,5 @@
+pub mod Bytes
+pub mod Lists
+pub mod Rows
+pub mod Sum
+pub mod Tests

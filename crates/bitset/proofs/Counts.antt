@@ -1,0 +1,48 @@
+-- How many members a set has: the ones among its bits, as the machine counts them. It is the sum of its bits below any bound that holds it, at most 64, 0
+-- for the empty set, and one more with one member more.
+use mathlib.Core.Path.{_≡_, sym, ap, ap₂, _∙_}
+use Prim.Native.Nat.{ℕ, zero, suc, _+_, _/_, _^_, _≤_, _<_}
+use native.Mathlib.Nat.{pow-succ', lt-of-lt-of-le}
+use native.Mathlib.Omega.{arith}
+use lib.Arith.{lt-one}
+use lib.Count.{ones, ones-step}
+use lib.Pow.{pow-mono}
+use Rattle.basis.specs.Sum.{sum}
+use Rattle.bitset.specs.Bits.{bit, Member, count}
+use Rattle.bitset.proofs.Made.{bit-added, bit-kept}
+use Rattle.bitset.proofs.Sets.{bit-of-none, bit-first, bit-next}
+use Rattle.basis.proofs.Sums.{sum-first, sum-same, sum-le, sum-more}
+
+-- the sum of the bits below n of a set below 2 ^ n is the number of its ones
+pub sum-ones : (n set : ℕ) → set < 2 ^ n → sum (λ e. bit set e) n ≡ ones set
+unfolding ones
+sum-ones zero set h = ap ones (sym (lt-one h))
+sum-ones (suc n) set h =
+    let half : set / 2 < 2 ^ n = omega (arith, pow-succ' 2 n) in
+    let others : sum (λ e. bit set (suc e)) n ≡ sum (λ e. bit (set / 2) e) n = sum-same _ _ n (λ e l. bit-next set e) in
+    sum-first (λ e. bit set e) n ∙ ap₂ (λ (x y : ℕ). x + y) (bit-first set) (others ∙ sum-ones n (set / 2) half) ∙ sym (ones-step set)
+
+-- the count is the machine's
+pub count-ones : (set : ℕ) → set < 2 ^ 64 → count set ≡ ones set
+unfolding count
+count-ones set h = sum-ones 64 set h
+
+-- the count is the sum of the bits below any bound that holds the set
+pub count-below : (n set : ℕ) → n ≤ 64 → set < 2 ^ n → count set ≡ sum (λ e. bit set e) n
+count-below n set l h = count-ones set (lt-of-lt-of-le h (pow-mono l)) ∙ sym (sum-ones n set h)
+
+-- the count is at most 64
+pub count-le : (set : ℕ) → count set ≤ 64
+unfolding count
+count-le set = sum-le (λ e. bit set e) 64 (λ e. omega arith)
+
+-- the empty set counts 0
+pub count-empty : count 0 ≡ 0
+count-empty = count-below 0 0 (omega arith) (omega arith)
+
+-- a set with one member more counts one more
+pub count-more : (set e : ℕ) → e < 64 → ¬ Member set e → count (set + 2 ^ e) ≡ suc (count set)
+unfolding count
+count-more set e l n =
+    let clear : bit set e ≡ 0 = bit-of-none set e n in
+    sum-more (λ d. bit (set + 2 ^ e) d) (λ d. bit set d) 64 e l (bit-added set e clear ∙ ap suc (sym clear)) (λ d f. bit-kept set e d clear f)

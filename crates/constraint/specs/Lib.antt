@@ -1,0 +1,4 @@
+pub mod Meaning
+pub mod Numeral
+pub mod Spelling
+pub mod Reading

@@ -1,0 +1,17 @@
+// A version, and what reading one constraint against one version answers (document 01, "Constraints").
+use basis::Refusal;
+
+pub struct Version {
+    pub major: u16,
+    pub minor: u16,
+    pub patch: u16,
+}
+
+pub enum Reading {
+    // The version fits.
+    Fits,
+    // It does not.
+    Misfits,
+    // The part spells no constraint within the limits: 4.
+    Refused(Refusal),
+}

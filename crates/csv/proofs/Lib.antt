@@ -1,0 +1,4 @@
+pub mod Unique
+pub mod Decided
+pub mod Outcome
+pub mod Tables

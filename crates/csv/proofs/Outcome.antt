@@ -1,0 +1,50 @@
+-- Reading a text into two lent tables has exactly one outcome: the answer and what each table then holds.
+use mathlib.Core.Path.{_≡_, refl}
+use mathlib.Core.List.{List}
+use mathlib.Core.Logic.{_⊎_, inl, inr}
+use Prim.Native.Nat.{ℕ}
+use native.Mathlib.Decide.{ℕ-discrete, decLt}
+use lib.ListN.{length}
+use Rattle.basis.specs.Rows.{Gives, GivesNone, refusal}
+use Rattle.basis.proofs.Decide.{either-or-not, not-or-not}
+use Rattle.basis.proofs.Rows.{gives-one, gives-not-none, Settled, gives-some, settled-each}
+use Rattle.csv.specs.declared.Sheet.{Sheet}
+use Rattle.csv.specs.declared.Sheet.the-variants.{Refused}
+use Rattle.csv.specs.Layout.{Line, Lays}
+use Rattle.csv.specs.Says.{entryCount, slotCount}
+use Rattle.csv.specs.Reading.{rows, Reads, refused, read}
+use Rattle.csv.proofs.Unique.{one-sheet}
+use Rattle.csv.proofs.Decided.{only-or-not, lays-or-not}
+
+pub read-one : (text entries slots : List ℕ) (a b : Sheet) (e e′ s s′ : List ℕ) → Reads text entries slots a e s → Reads text entries slots b e′ s′
+    → (a ≡ b) × (e ≡ e′) × (s ≡ s′)
+read-one text entries slots a b e e′ s s′ (refused {n = m} g p q r) (refused {n = n} g′ p′ q′ r′) =
+    let same = gives-one (rows text entries slots) m n g g′ in (cc, cc, cc)
+read-one text entries slots a b e e′ s s′ (refused {n = n} g p q r) (read g′ l p′ q′ r′) = absurd (gives-not-none (rows text entries slots) n g g′)
+read-one text entries slots a b e e′ s s′ (read g l p q r) (refused {n = n} g′ p′ q′ r′) = absurd (gives-not-none (rows text entries slots) n g′ g)
+read-one text entries slots a b e e′ s s′ (read g l p q r) (read g′ l′ p′ q′ r′) = let same = one-sheet l l′ in (cc, cc, cc)
+
+settled : (text entries slots : List ℕ) → Settled (rows text entries slots)
+settled text entries slots =
+    settled-each (rows text entries slots) (
+      either-or-not (not-or-not (ℕ-discrete (length entries) 320)) (not-or-not (ℕ-discrete (length slots) 1024)),
+      (
+        not-or-not (lays-or-not text),
+        (
+          of-lines (λ lines. either-or-not (ℕ-discrete (entryCount lines) 0) (decLt 64 (entryCount lines))),
+          (of-lines (λ lines. decLt 256 (slotCount lines)), tt),
+        ),
+      ),
+    )
+  where
+    of-lines : {Q : List Line → Type 0} → ((lines : List Line) → Dec (Q lines)) → Dec ((lines : List Line) × Lays text lines × Q lines)
+    of-lines d = only-or-not (λ ls ms a b. one-sheet a b) (lays-or-not text) d
+
+pub read-some : (text entries slots : List ℕ) → (a : Sheet) × (e : List ℕ) × (s : List ℕ) × Reads text entries slots a e s
+read-some text entries slots = go (gives-some (rows text entries slots) (settled text entries slots)) (lays-or-not text)
+  where
+    go : ((n : ℕ) × Gives (rows text entries slots) n) ⊎ GivesNone (rows text entries slots) → Dec ((lines : List Line) × Lays text lines)
+        → (a : Sheet) × (e : List ℕ) × (s : List ℕ) × Reads text entries slots a e s
+    go (inl g) l = (Refused (refusal (g .0)), entries, slots, refused (g .1) refl refl refl)
+    go (inr g) (yes l) = (_, _, _, read g (l .1) refl refl refl)
+    go (inr g) (no n) = absurd (g .1 .0 n)

@@ -1,0 +1,51 @@
+-- What first and next may answer, and what they leave in the plan buffer.
+use mathlib.Core.Path.{_≡_}
+use mathlib.Core.List.{List, [], _∷_, _++_}
+use Prim.Native.Nat.{ℕ}
+use lib.ListN.{length}
+use Rattle.basis.specs.Rows.{Row, row, Gives, GivesNone, refusal}
+use Rattle.pacsolve.specs.declared.Cost.{Cost}
+use Rattle.pacsolve.specs.Plan.{Plan as A-plan, plan, Sound}
+use Rattle.pacsolve.specs.Cost.{cost}
+use Rattle.pacsolve.specs.Listing.{Asked, from-the-start, after, Least, NoneLeft}
+use Rattle.catalogue.specs.Tables.{Lent}
+use Rattle.catalogue.specs.Refusals.{rows}
+use Rattle.catalogue.specs.Gives.{problem}
+use Rattle.lister.specs.declared.Answer.{Answer}
+use Rattle.lister.specs.declared.Answer.the-variants.{Refused, Plan}
+
+-- the paper's number, set and cost of each case: 0 for a refusal, and number 0 where there is none
+abbrev pub numberOf : Answer → ℕ
+numberOf (Refused r) = r .number
+numberOf (Plan set c) = 0
+
+abbrev pub setOf : Answer → ℕ
+setOf (Refused r) = 0
+setOf (Plan set c) = set
+
+abbrev pub costOf : Answer → Cost
+costOf (Refused r) = record { first = 0; second = 0; third = 0 }
+costOf (Plan set c) = c
+
+-- a plan as an answer: its set and its cost
+abbrev pub given : Lent → A-plan → Answer
+given L P = Plan (P .set) (cost (problem L) (P .set))
+
+-- the rows of first: those of every call, then 11, no sound plan
+abbrev pub firstRows : Lent → ℕ → List Row
+firstRows L room = rows L room ++ (row 11 (NoneLeft (problem L) from-the-start) ∷ [])
+
+-- the rows of next, for the plan that it was given: 10, the given plan isn't sound; 11, none after it
+abbrev pub nextRows : Lent → ℕ → A-plan → List Row
+nextRows L room P = rows L room ++ (row 10 (¬ Sound (problem L) P) ∷ row 11 (NoneLeft (problem L) (after P)) ∷ [])
+
+-- THE RELATION of first: for what is lent and a plan buffer, the answer and the buffer after. A plan given overwrites the whole buffer
+pub data Firsts (L : Lent) (buffer : List ℕ) (a : Answer) (buffer′ : List ℕ) : Type 0 where
+  refused : {n : ℕ} → Gives (firstRows L (length buffer)) n → a ≡ Refused (refusal n) → buffer′ ≡ buffer → Firsts L buffer a buffer′
+  found : {P : A-plan} → GivesNone (firstRows L (length buffer)) → Least (problem L) from-the-start P → a ≡ given L P → buffer′ ≡ P .table → Firsts L buffer a buffer′
+
+-- THE RELATION of next: the buffer and a given set hold a plan
+pub data Nexts (L : Lent) (set : ℕ) (buffer : List ℕ) (a : Answer) (buffer′ : List ℕ) : Type 0 where
+  refused : {n : ℕ} → Gives (nextRows L (length buffer) (plan set buffer)) n → a ≡ Refused (refusal n) → buffer′ ≡ buffer → Nexts L set buffer a buffer′
+  found : {P : A-plan} → GivesNone (nextRows L (length buffer) (plan set buffer)) → Least (problem L) (after (plan set buffer)) P → a ≡ given L P → buffer′ ≡ P .table
+      → Nexts L set buffer a buffer′
