@@ -168,3 +168,7 @@ decides-some {f} {A} (suc n) d =
     kept : (A n → T (f n)) → ((k : ℕ) × (k < n) × A k → T (some-of f n)) → (k : ℕ) → A k → (k ≡ n) ⊎ (k < n) → T (f n) ⊎ T (some-of f n)
     kept here there k x (inl e) = inl (here (rw e at x))
     kept here there k x (inr h) = inr (there (k, h, x))
+
+-- what holds or not of each number holds or not of some number below n
+pub some-or-not : {A : ℕ → Type 0} (n : ℕ) → ((k : ℕ) → Dec (A k)) → Dec ((k : ℕ) × (k < n) × A k)
+some-or-not n d = decided (decides-some n (λ k h. as-test-decides (d k)))
