@@ -31,21 +31,20 @@ costOf (Plan set c) = c
 abbrev pub given : Lent → A-plan → Answer
 given L P = Plan (P .set) (cost (problem L) (P .set))
 
--- the rows of first: those of every call, then 11, no sound plan
-abbrev pub firstRows : Lent → ℕ → List Row
-firstRows L room = rows L room ++ (row 11 (NoneLeft (problem L) from-the-start) ∷ [])
+-- the refusals: those of every call; then, from the start, 11, no sound plan; after a given plan, 10, the given plan isn't sound, and 11, none after it
+abbrev pub askRows : Lent → ℕ → Asked → List Row
+askRows L room from-the-start = rows L room ++ (row 11 (NoneLeft (problem L) from-the-start) ∷ [])
+askRows L room (after P) = rows L room ++ (row 10 (¬ Sound (problem L) P) ∷ row 11 (NoneLeft (problem L) (after P)) ∷ [])
 
--- the rows of next, for the plan that it was given: 10, the given plan isn't sound; 11, none after it
-abbrev pub nextRows : Lent → ℕ → A-plan → List Row
-nextRows L room P = rows L room ++ (row 10 (¬ Sound (problem L) P) ∷ row 11 (NoneLeft (problem L) (after P)) ∷ [])
+-- for what is lent, what is asked for and a plan buffer: the answer, and the buffer after. A plan given overwrites the whole buffer
+pub data Lists (L : Lent) (q : Asked) (buffer : List ℕ) (a : Answer) (buffer′ : List ℕ) : Type 0 where
+  refused : {n : ℕ} → Gives (askRows L (length buffer) q) n → a ≡ Refused (refusal n) → buffer′ ≡ buffer → Lists L q buffer a buffer′
+  found : {P : A-plan} → GivesNone (askRows L (length buffer) q) → Least (problem L) q P → a ≡ given L P → buffer′ ≡ P .table → Lists L q buffer a buffer′
 
--- THE RELATION of first: for what is lent and a plan buffer, the answer and the buffer after. A plan given overwrites the whole buffer
-pub data Firsts (L : Lent) (buffer : List ℕ) (a : Answer) (buffer′ : List ℕ) : Type 0 where
-  refused : {n : ℕ} → Gives (firstRows L (length buffer)) n → a ≡ Refused (refusal n) → buffer′ ≡ buffer → Firsts L buffer a buffer′
-  found : {P : A-plan} → GivesNone (firstRows L (length buffer)) → Least (problem L) from-the-start P → a ≡ given L P → buffer′ ≡ P .table → Firsts L buffer a buffer′
+-- THE RELATION of first: the least sound plan
+abbrev pub Firsts : Lent → List ℕ → Answer → List ℕ → Type 0
+Firsts L buffer a buffer′ = Lists L from-the-start buffer a buffer′
 
--- THE RELATION of next: the buffer and a given set hold a plan
-pub data Nexts (L : Lent) (set : ℕ) (buffer : List ℕ) (a : Answer) (buffer′ : List ℕ) : Type 0 where
-  refused : {n : ℕ} → Gives (nextRows L (length buffer) (plan set buffer)) n → a ≡ Refused (refusal n) → buffer′ ≡ buffer → Nexts L set buffer a buffer′
-  found : {P : A-plan} → GivesNone (nextRows L (length buffer) (plan set buffer)) → Least (problem L) (after (plan set buffer)) P → a ≡ given L P → buffer′ ≡ P .table
-      → Nexts L set buffer a buffer′
+-- THE RELATION of next: the buffer and a given set hold a plan, and the answer is the least sound plan after it
+abbrev pub Nexts : Lent → ℕ → List ℕ → Answer → List ℕ → Type 0
+Nexts L set buffer a buffer′ = Lists L (after (plan set buffer)) buffer a buffer′

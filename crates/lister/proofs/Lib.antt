@@ -1,0 +1,4 @@
+pub mod Asked
+pub mod Outcome
+pub mod TurnOutcome
+pub mod TurnedOver
