@@ -1,3 +1,4 @@
 pub mod Tables
 pub mod Refusals
 pub mod Gives
+pub mod Survey

@@ -4,3 +4,9 @@ pub struct Settings {
     pub mode: u8,
     pub cycles: u8,
 }
+
+// What a survey of a catalogue gives: the number of the refusal, 0 for none, and for every slot the set of the entries that fit it.
+pub struct Survey {
+    pub number: u8,
+    pub fits: [u64; 256],
+}

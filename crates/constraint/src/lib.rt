@@ -15,3 +15,11 @@ pub enum Reading {
     // The part spells no constraint within the limits: 4.
     Refused(Refusal),
 }
+
+// What reading one constraint against many versions answers.
+pub enum Selection {
+    // The set of those that satisfy it: bit e for version e.
+    Versions(u64),
+    // The part spells no constraint within the limits.
+    Unread,
+}
