@@ -1,3 +1,4 @@
 pub mod Settled
 pub mod Sane
 pub mod Computed
+pub mod Indexed

@@ -1,16 +1,17 @@
 -- What a survey of a catalogue answers: the refusal, or none and for every slot the set of the entries that fit it; and the problem that such sets give.
 use mathlib.Core.Path.{_≡_}
-use mathlib.Core.List.{List}
+use mathlib.Core.List.{List, []}
 use mathlib.Core.Logic.{_↔_}
 use Prim.Native.Nat.{ℕ, _≤_, _<_}
 use lib.ListN.{getD, replicate}
 use Rattle.basis.specs.Rows.{Gives, GivesNone}
 use Rattle.bitset.specs.Bits.{Member}
 use Rattle.pacsolve.specs.Problem.{Problem}
+use Rattle.catalogue.specs.declared.Settings.{Settings}
 use Rattle.catalogue.specs.declared.Survey.{Survey}
-use Rattle.catalogue.specs.Tables.{Lent, entryCount, packageOf, versionOf, weightOf, slotCount, ownerOf}
+use Rattle.catalogue.specs.Tables.{Lent, lent, entryCount, packageOf, versionOf, weightOf, slotCount, ownerOf}
 use Rattle.catalogue.specs.Refusals.{rows}
-use Rattle.catalogue.specs.Gives.{Fits, Together, problem}
+use Rattle.catalogue.specs.Gives.{Fits, Together}
 
 -- fits holds, for every slot, the set of the entries that fit it, and nothing past the slots
 pub record Indexes (L : Lent) (fits : List ℕ) : Type 0 where
@@ -37,3 +38,7 @@ indexed L fits =
       forbidden = L .settings .cycles ≡ 0;
       objectives = L .objectives;
     }
+
+-- the same from the tables alone, which is all that it looks at
+abbrev pub tabled : List ℕ → List ℕ → Settings → List ℕ → List ℕ → Problem
+tabled entries slots settings objectives fits = indexed (lent entries slots [] settings objectives) fits

@@ -6,3 +6,4 @@ pub mod Conditions
 pub mod Sorted
 pub mod Enumerated
 pub mod Duplicates
+pub mod Refit
