@@ -1,17 +1,18 @@
--- Reading a text into two lent tables has exactly one outcome: the answer and what each table then holds.
-use mathlib.Core.Path.{_≡_, refl}
-use mathlib.Core.List.{List}
-use mathlib.Core.Logic.{_⊎_, inl, inr}
-use Prim.Native.Nat.{ℕ}
+-- Reading a text into two lent tables has exactly one outcome: the answer and what each table then holds; and a text in the layout, within the limits, is read.
+use mathlib.Core.Path.{_≡_, refl, ap}
+use mathlib.Core.List.{List, _++_}
+use mathlib.Core.Logic.{_⊎_, inl, inr, ⊎-elim}
+use Prim.Native.Nat.{ℕ, _*_, _≤_, _<_}
 use native.Mathlib.Decide.{ℕ-discrete, decLt}
-use lib.ListN.{length}
+use native.Mathlib.Omega.{arith}
+use lib.ListN.{length, drop}
 use Rattle.basis.specs.Rows.{Gives, GivesNone, refusal}
 use Rattle.basis.proofs.Decide.{either-or-not, not-or-not}
 use Rattle.basis.proofs.Rows.{gives-one, gives-not-none, Settled, gives-some, settled-each}
 use Rattle.csv.specs.declared.Sheet.{Sheet}
-use Rattle.csv.specs.declared.Sheet.the-variants.{Refused}
+use Rattle.csv.specs.declared.Sheet.the-variants.{Refused, Holds}
 use Rattle.csv.specs.Layout.{Line, Lays}
-use Rattle.csv.specs.Says.{entryCount, slotCount}
+use Rattle.csv.specs.Says.{entryCount, slotCount, entryTable, slotTable}
 use Rattle.csv.specs.Reading.{rows, Reads, refused, read}
 use Rattle.csv.proofs.Unique.{one-sheet}
 use Rattle.csv.proofs.Decided.{only-or-not, lays-or-not}
@@ -48,3 +49,22 @@ read-some text entries slots = go (gives-some (rows text entries slots) (settled
     go (inl g) l = (Refused (refusal (g .0)), entries, slots, refused (g .1) refl refl refl)
     go (inr g) (yes l) = (_, _, _, read g (l .1) refl refl refl)
     go (inr g) (no n) = absurd (g .1 .0 n)
+
+-- a text in the layout with as many entries and slots as there may be is read
+pub read-of : {text : List ℕ} {lines : List Line} (entries slots : List ℕ) → Lays text lines → length entries ≡ 320 → length slots ≡ 1024
+    → 0 < entryCount lines → entryCount lines ≤ 64 → slotCount lines ≤ 256
+    → Reads text entries slots (Holds (entryCount lines) (slotCount lines)) (entryTable lines ++ drop (5 * entryCount lines) entries) (slotTable lines ++ drop (4 * slotCount lines) slots)
+read-of {text} {lines} entries slots l e s some few-entries few-slots = read (sizes, ((λ n. n (lines, l)), (entries-fit, (slots-fit, tt)))) l refl refl refl
+  where
+    sizes : ¬ ((¬ (length entries ≡ 320)) ⊎ (¬ (length slots ≡ 1024)))
+    sizes (inl n) = n e
+    sizes (inr n) = n s
+
+    counted : {ls : List Line} → Lays text ls → entryCount ls ≡ entryCount lines
+    counted k = ap entryCount (one-sheet k l)
+
+    entries-fit : ¬ ((ls : List Line) × Lays text ls × ((entryCount ls ≡ 0) ⊎ (64 < entryCount ls)))
+    entries-fit x = ⊎-elim (λ (z : entryCount (x .0) ≡ 0). omega (arith, counted (x .1), z)) (λ (z : 64 < entryCount (x .0)). omega (arith, counted (x .1), z)) (x .2)
+
+    slots-fit : ¬ ((ls : List Line) × Lays text ls × (256 < slotCount ls))
+    slots-fit x = omega (arith, ap slotCount (one-sheet (x .1) l), x .2)

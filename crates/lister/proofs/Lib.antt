@@ -1,4 +1,5 @@
 pub mod Asked
 pub mod Outcome
+pub mod Search
 pub mod TurnOutcome
 pub mod TurnedOver

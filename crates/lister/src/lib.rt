@@ -19,3 +19,10 @@ pub struct Turned {
     pub answer: Answer,
     pub listing: ListingRecord,
 }
+
+// A plan's set and cost, where there is a plan; its table stands beside it in a buffer.
+pub struct Best {
+    pub found: bool,
+    pub set: u64,
+    pub cost: Cost,
+}

@@ -1,0 +1,11 @@
+pub mod Tested
+pub mod Readings
+pub mod Lines
+pub mod Unrefused
+pub mod Listed
+pub mod Carets
+pub mod Input
+pub mod Loop
+pub mod Ends
+pub mod Bench
+pub mod Excluded

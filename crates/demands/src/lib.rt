@@ -1,0 +1,1 @@
+// The examples and the demands of document 01 are theorems: see specs/ and proofs/.

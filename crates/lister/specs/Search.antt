@@ -1,0 +1,72 @@
+-- What the search promises. A node is what is known of some plans: they have all of `must`, none of `ban`, and each slot of a member names one of its `choices`. A plan
+-- is sought at a node if it is good, asked for, below the limit, and inside the node.
+use mathlib.Core.Path.{_≡_}
+use mathlib.Core.Bool.{Bool, true, false}
+use mathlib.Core.List.{List}
+use Prim.Native.Nat.{ℕ, _<_}
+use lib.ListN.{getD}
+use Rattle.bitset.specs.Bits.{Member}
+use Rattle.pacsolve.specs.Problem.{Problem}
+use Rattle.pacsolve.specs.Plan.{Plan, plan, chosen, MemberOf}
+use Rattle.pacsolve.specs.Cost.{cost}
+use Rattle.pacsolve.specs.Order.{Precedes}
+use Rattle.pacsolve.specs.Listing.{Good, Asked, from-the-start, after, Wanted}
+use Rattle.lister.specs.declared.Best.{Best}
+
+-- what is sought lies before the best plan found so far, if one is
+pub data Limit : Type 0 where
+  no-limit : Limit
+  before : Plan → Limit
+
+abbrev pub Below : Problem → Limit → Plan → Type 0
+Below p no-limit P = Unit {0}
+Below p (before Q) P = Precedes p P Q
+
+pub record Inside (p : Problem) (must ban : ℕ) (choices : List ℕ) (P : Plan) : Type 0 where
+  pub has : (e : ℕ) → Member must e → MemberOf P e
+  pub lacks : (e : ℕ) → Member ban e → ¬ MemberOf P e
+  pub names : (s : ℕ) → s < p .slots → MemberOf P (p .owner s) → Member (getD choices s 0) (chosen P s)
+
+pub record Sought (p : Problem) (q : Asked) (lim : Limit) (must ban : ℕ) (choices : List ℕ) (P : Plan) : Type 0 where
+  pub good : Good p P
+  pub wanted : Wanted p q P
+  pub below : Below p lim P
+  pub inside : Inside p must ban choices P
+
+-- nothing that is sought is left at a node
+abbrev pub Spent : Problem → Asked → Limit → ℕ → ℕ → List ℕ → Type 0
+Spent p q lim must ban choices = (P : Plan) → ¬ Sought p q lim must ban choices P
+
+-- a limit after a search: the one before it, or a good plan that is asked for and lay below it
+pub data Tightened (p : Problem) (q : Asked) (lim lim′ : Limit) : Type 0 where
+  same : lim′ ≡ lim → Tightened p q lim lim′
+  better : {P : Plan} → Good p P → Wanted p q P → Below p lim P → lim′ ≡ before P → Tightened p q lim lim′
+
+-- THE PROMISE of the walk: below the new limit nothing is left at the node
+pub record Searched (p : Problem) (q : Asked) (lim : Limit) (must ban : ℕ) (choices : List ℕ) (lim′ : Limit) : Type 0 where
+  pub tightened : Tightened p q lim lim′
+  pub spent : Spent p q lim′ must ban choices
+
+-- THE PROMISE of narrowing: no plan that is sought is lost
+abbrev pub Keeps : Problem → Asked → Limit → ℕ → ℕ → List ℕ → ℕ → ℕ → List ℕ → Type 0
+Keeps p q lim must ban choices must′ ban′ choices′ = (P : Plan) → Sought p q lim must ban choices P → Inside p must′ ban′ choices′ P
+
+-- the limit that a best plan and its table are
+abbrev pub limitIf : Bool → Plan → Limit
+limitIf true P = before P
+limitIf false P = no-limit
+
+abbrev pub limitOf : Best → List ℕ → Limit
+limitOf b table = limitIf (b .found) (plan (b .set) table)
+
+-- what is asked for, by a plan that was given or not
+abbrev pub askedIf : Bool → Plan → Asked
+askedIf true P = after P
+askedIf false P = from-the-start
+
+abbrev pub askedOf : Best → List ℕ → Asked
+askedOf b table = askedIf (b .found) (plan (b .set) table)
+
+-- the cost beside a plan is its own
+abbrev pub Costed : Problem → Best → Type 0
+Costed p b = b .found ≡ true → b .cost ≡ cost p (b .set)
