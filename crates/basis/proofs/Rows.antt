@@ -45,6 +45,11 @@ pub none-after : (rs ss : List Row) → GivesNone rs → GivesNone ss → GivesN
 none-after [] ss a b = b
 none-after (r ∷ rs) ss a b = (a .0, none-after rs ss (a .1) b)
 
+pub gives-before : (rs ss : List Row) (n : ℕ) → Gives rs n → Gives (rs ++ ss) n
+gives-before [] ss n a = absurd a
+gives-before (r ∷ rs) ss n (inl a) = inl a
+gives-before (r ∷ rs) ss n (inr a) = inr (a .0, gives-before rs ss n (a .1))
+
 pub gives-after : (rs ss : List Row) (n : ℕ) → GivesNone rs → Gives ss n → Gives (rs ++ ss) n
 gives-after [] ss n a b = b
 gives-after (r ∷ rs) ss n a b = inr (a .0, gives-after rs ss n (a .1) b)

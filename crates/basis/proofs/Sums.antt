@@ -47,3 +47,16 @@ term-le f (suc n) e h = go (below-suc h) (λ l. term-le f n e l)
 pub sum-zero : (f : ℕ → ℕ) (n : ℕ) → ((e : ℕ) → e < n → f e ≡ 0) → sum f n ≡ 0
 sum-zero f zero h = refl
 sum-zero f (suc n) h = omega (arith, sum-zero f n (λ e l. h e (omega arith)), h n (omega arith))
+
+-- a sum of smaller terms is smaller, and less where one of them is less
+pub sum-mono : (f g : ℕ → ℕ) (n : ℕ) → ((e : ℕ) → e < n → f e ≤ g e) → sum f n ≤ sum g n
+sum-mono f g zero h = omega arith
+sum-mono f g (suc n) h = omega (arith, sum-mono f g n (λ e l. h e (omega arith)), h n (omega arith))
+
+pub sum-less : (f g : ℕ → ℕ) (n e : ℕ) → ((d : ℕ) → d < n → f d ≤ g d) → e < n → f e < g e → sum f n < sum g n
+sum-less f g zero e h l k = absurd (not-suc-le-zero l)
+sum-less f g (suc n) e h l k = go (below-suc l) (λ m. sum-less f g n e (λ d o. h d (omega arith)) m k)
+  where
+    go : (e ≡ n) ⊎ (e < n) → (e < n → sum f n < sum g n) → sum f (suc n) < sum g (suc n)
+    go (inl m) rest = omega (arith, rw m at k, sum-mono f g n (λ d o. h d (omega arith)))
+    go (inr m) rest = omega (arith, rest m, h n (omega arith))

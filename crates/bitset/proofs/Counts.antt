@@ -1,6 +1,7 @@
 -- How many members a set has: the ones among its bits, as the machine counts them. It is the sum of its bits below any bound that holds it, at most 64, 0
 -- for the empty set, and one more with one member more.
 use mathlib.Core.Path.{_≡_, sym, ap, ap₂, _∙_}
+use mathlib.Core.Logic.{_⊎_, inl, inr}
 use Prim.Native.Nat.{ℕ, zero, suc, _+_, _/_, _^_, _≤_, _<_}
 use native.Mathlib.Nat.{pow-succ', lt-of-lt-of-le}
 use native.Mathlib.Omega.{arith}
@@ -10,8 +11,8 @@ use lib.Pow.{pow-mono}
 use Rattle.basis.specs.Sum.{sum}
 use Rattle.bitset.specs.Bits.{bit, Member, count}
 use Rattle.bitset.proofs.Made.{bit-added, bit-kept}
-use Rattle.bitset.proofs.Sets.{bit-of-none, bit-first, bit-next}
-use Rattle.basis.proofs.Sums.{sum-first, sum-same, sum-le, sum-more}
+use Rattle.bitset.proofs.Sets.{bit-cases, bit-of-none, bit-first, bit-next}
+use Rattle.basis.proofs.Sums.{sum-first, sum-same, sum-le, sum-more, sum-mono, sum-less}
 
 -- the sum of the bits below n of a set below 2 ^ n is the number of its ones
 pub sum-ones : (n set : ℕ) → set < 2 ^ n → sum (λ e. bit set e) n ≡ ones set
@@ -46,3 +47,21 @@ unfolding count
 count-more set e l n =
     let clear : bit set e ≡ 0 = bit-of-none set e n in
     sum-more (λ d. bit (set + 2 ^ e) d) (λ d. bit set d) 64 e l (bit-added set e clear ∙ ap suc (sym clear)) (λ d f. bit-kept set e d clear f)
+
+-- bit by bit, a set within another is no larger
+bit-within : (a b e : ℕ) → (Member a e → Member b e) → bit a e ≤ bit b e
+bit-within a b e h = go (bit-cases a e)
+  where
+    go : (bit a e ≡ 0) ⊎ (bit a e ≡ 1) → bit a e ≤ bit b e
+    go (inl z) = omega arith
+    go (inr o) = omega (arith, h o)
+
+-- a set within another counts no more, and less where it lacks a member of it
+pub count-within : (a b : ℕ) → ((e : ℕ) → Member a e → Member b e) → count a ≤ count b
+unfolding count
+count-within a b h = sum-mono (λ e. bit a e) (λ e. bit b e) 64 (λ e l. bit-within a b e (h e))
+
+pub count-less : (a b e : ℕ) → ((d : ℕ) → Member a d → Member b d) → e < 64 → Member b e → ¬ Member a e → count a < count b
+unfolding count
+count-less a b e h l m n =
+    sum-less (λ d. bit a d) (λ d. bit b d) 64 e (λ d k. bit-within a b d (h d)) l (omega (arith, bit-of-none a e n))

@@ -18,12 +18,12 @@ use Rattle.pacsolve.specs.Cost.{cost, numbers}
 use Rattle.pacsolve.specs.Order.{Earlier, lower, alike, Precedes, cheaper, tied}
 
 -- what an earlier list looks like
-abbrev Cases : List ℕ → List ℕ → Type 0
+abbrev pub Cases : List ℕ → List ℕ → Type 0
 Cases [] t = ⊥
 Cases (a ∷ s) [] = ⊥
 Cases (a ∷ s) (b ∷ t) = (a < b) ⊎ ((a ≡ b) × Earlier s t)
 
-earlier-cases : {s t : List ℕ} → Earlier s t → Cases s t
+pub earlier-cases : {s t : List ℕ} → Earlier s t → Cases s t
 earlier-cases (lower h) = inl h
 earlier-cases (alike h) = inr (refl, h)
 

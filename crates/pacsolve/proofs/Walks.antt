@@ -31,7 +31,7 @@ pub record Trail (p : Problem) (P : Plan) (d e : ℕ) : Type 0 where
   pub rest : Walk p P next e
 
 -- a walk of one step or more whose inner entries are all below k
-abbrev Hop : Problem → Plan → ℕ → ℕ → ℕ → Type 0
+abbrev pub Hop : Problem → Plan → ℕ → ℕ → ℕ → Type 0
 Hop p P zero d e = Step p P d e
 Hop p P (suc k) d e = Hop p P k d e ⊎ (Hop p P k d k × Hop p P k k e)
 
@@ -64,7 +64,7 @@ module _ (p : Problem) (P : Plan) where
   hop-decides (suc k) d e =
       rw (hop-suc k d e) (decides-or (hop-decides k d e) (decides-then (hop-decides k d k) (λ h. hop-decides k k e)))
 
-  walk-on : {d e f : ℕ} → Walk p P d e → Walk p P e f → Walk p P d f
+  pub walk-on : {d e f : ℕ} → Walk p P d e → Walk p P e f → Walk p P d f
   walk-on w here = w
   walk-on w (on v s) = on (walk-on w v) s
 
@@ -80,28 +80,28 @@ module _ (p : Problem) (P : Plan) where
       go (inl h) = inr (record { next = f; first = rw h s; rest = here })
       go (inr t) = inr (record { next = t .next; first = t .first; rest = on (t .rest) s })
 
-  hop-trail : (k d e : ℕ) → Hop p P k d e → Trail p P d e
+  pub hop-trail : (k d e : ℕ) → Hop p P k d e → Trail p P d e
   hop-trail zero d e s = record { next = e; first = s; rest = here }
   hop-trail (suc k) d e (inl h) = hop-trail k d e h
   hop-trail (suc k) d e (inr h) =
       let one = hop-trail k d k (h .0) in
       record { next = one .next; first = one .first; rest = walk-on (one .rest) (trail-walk (hop-trail k k e (h .1))) }
 
-  step-hop : (k d e : ℕ) → Step p P d e → Hop p P k d e
+  pub step-hop : (k d e : ℕ) → Step p P d e → Hop p P k d e
   step-hop zero d e s = s
   step-hop (suc k) d e s = inl (step-hop k d e s)
 
   -- to k and from k, nothing is gained by passing through k
-  to-last : (k d : ℕ) → Hop p P (suc k) d k → Hop p P k d k
+  pub to-last : (k d : ℕ) → Hop p P (suc k) d k → Hop p P k d k
   to-last k d (inl h) = h
   to-last k d (inr h) = h .0
 
-  from-last : (k e : ℕ) → Hop p P (suc k) k e → Hop p P k k e
+  pub from-last : (k e : ℕ) → Hop p P (suc k) k e → Hop p P k k e
   from-last k e (inl h) = h
   from-last k e (inr h) = h .1
 
   -- two walks that meet below k are one
-  hop-join : (k d v e : ℕ) → v < k → Hop p P k d v → Hop p P k v e → Hop p P k d e
+  pub hop-join : (k d v e : ℕ) → v < k → Hop p P k d v → Hop p P k v e → Hop p P k d e
   hop-join zero d v e h x y = absurd (not-suc-le-zero h)
   hop-join (suc k) d v e h x y = go (below-suc h) (hop-join k)
     where
