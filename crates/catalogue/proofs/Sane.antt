@@ -1,13 +1,11 @@
--- What is known of a catalogue that no row refuses, by name: the one place that goes by the rows' order.
+-- What is known of a catalogue that no row refuses, by name: the one place that goes by the order of all rows.
 use mathlib.Core.Path.{_≡_}
-use mathlib.Core.Logic.{_⊎_, inl, inr}
-use Prim.Native.Nat.{ℕ, _≤_, _<_}
+use Prim.Native.Nat.{ℕ, _≤_}
 use native.Mathlib.Decide.{ℕ-discrete}
-use native.Mathlib.Omega.{arith}
 use Rattle.basis.specs.Rows.{GivesNone}
-use Rattle.constraint.specs.Spelling.{Readable}
-use Rattle.catalogue.specs.Tables.{Lent, entryCount, slotCount, partOf}
+use Rattle.catalogue.specs.Tables.{Lent, entryCount, slotCount}
 use Rattle.catalogue.specs.Refusals.{rows, EntriesMisshapen, EntryTwice, SlotsMisshapen, OwnerMissing, OwnersFall, MarksCross, EndPastText, ConstraintUnread, RootMissing, ModeUnknown, CyclesUnknown, ObjectivesMisnumbered, ObjectiveUnknown, ObjectiveTwice, BufferMisfits, WeightsOverflow}
+use Rattle.catalogue.proofs.Order.{at-most-64}
 
 pub record Sane (L : Lent) (room : ℕ) : Type 0 where
   pub entries : ¬ EntriesMisshapen L
@@ -94,7 +92,7 @@ unrefused L room s = (
 
 module _ (L : Lent) (room : ℕ) (s : Sane L room) where
   pub few-entries : entryCount L ≤ 64
-  few-entries = let few : ¬ (64 < entryCount L) = λ h. s .entries (inr (inr h)) in omega arith
+  few-entries = at-most-64 L (s .entries)
 
   pub right-room : room ≡ slotCount L
   right-room = go (ℕ-discrete room (slotCount L))

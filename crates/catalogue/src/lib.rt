@@ -1,3 +1,14 @@
+// The lent tables, text and settings of a call: what they hold, how each refusal of 1 to 8 is found, and the sets of entries that fit the slots.
+pub mod call;
+pub mod entries;
+pub mod fields;
+mod index;
+mod packing;
+mod refusals;
+pub mod setup;
+pub mod slots;
+pub mod weights;
+
 // The settings of a call (document 01, "The lent tables"). Every value is taken: one outside the rules is refused by its number.
 pub struct Settings {
     pub root: u16,
@@ -9,4 +20,10 @@ pub struct Settings {
 pub struct Survey {
     pub number: u8,
     pub fits: [u64; 256],
+}
+
+// What reading one slot's constraint gives: the number of the refusal, 0 for none, and the set of the entries that fit the slot.
+pub struct Fitting {
+    pub number: u8,
+    pub set: u64,
 }

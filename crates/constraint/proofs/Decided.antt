@@ -151,7 +151,7 @@ formed k part (bound o b) p h = inr (inl (o, (b, p)))
 formed k part (both c d) p h = inr (inr (inl (within-sides c d (omega arith) p)))
 formed k part (either c d) p h = inr (inr (inr (within-sides c d (omega arith) p)))
 
-depth-above-zero : (c : Constraint) → ¬ (depth c ≤ 0)
+pub depth-above-zero : (c : Constraint) → ¬ (depth c ≤ 0)
 depth-above-zero any = omega arith
 depth-above-zero (bound o b) = omega arith
 depth-above-zero (both c d) = omega arith

@@ -16,18 +16,18 @@ use Rattle.constraint.specs.Spelling.{sign, Bounded, Paired, Spells, Rea
 use Rattle.constraint.proofs.Numerals.{one-number}
 
 -- the form of a constraint, without its parts
-data Form : Type 0 where
+pub data Form : Type 0 where
   anything joined chosen : Form
   bounded : Bound → Form
 
-abbrev form : Constraint → Form
+abbrev pub form : Constraint → Form
 form any = anything
 form (bound o b) = bounded o
 form (both c d) = joined
 form (either c d) = chosen
 
 -- the form that a text's first two bytes tell: `*`, or what stands after `(`, one of `a`, `o`, `=`, `<`, `>` and `^`
-told : List ℕ → Form
+unfoldable pub told : List ℕ → Form
 told bs =
     cond (eqb (getD bs 0 0) 42) anything
     (cond (eqb (getD bs 1 0) 97) joined
@@ -41,7 +41,7 @@ told-sign at-most r s = refl
 told-sign at-least r s = refl
 told-sign caret r s = refl
 
-told-form : (c : Constraint) (x s : List ℕ) → Spells c x → told (x ++ s) ≡ form c
+pub told-form : (c : Constraint) (x s : List ℕ) → Spells c x → told (x ++ s) ≡ form c
 unfolding told
 told-form any x s p = rw p
 told-form (bound o b) x s p = rw (p .whole) (told-sign o _ s)

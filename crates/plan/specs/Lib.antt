@@ -1,1 +1,7 @@
 pub mod Check
+pub mod Closure
+pub mod Growth
+pub mod Judged
+pub mod Pairs
+pub mod Repeats
+pub mod Slots
