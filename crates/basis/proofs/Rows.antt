@@ -36,6 +36,12 @@ gives-some (r ∷ rs) s = go (s .0) (λ n. gives-some rs (s .1 n))
     go (yes a) x = inl (r .number, inl (a, refl))
     go (no n) x = ⊎-elim (λ y. inl (y .0, inr (n, y .1))) (λ y. inr (n, y)) (x n)
 
+-- what holds of each row's number holds of the number given
+pub gives-among : (P : ℕ → Type 0) (rs : List Row) (n : ℕ) → All (λ r. P (r .number)) rs → Gives rs n → P n
+gives-among P [] n a g = absurd g
+gives-among P (r ∷ rs) n a (inl g) = rw (g .1) (a .0)
+gives-among P (r ∷ rs) n a (inr g) = gives-among P rs n (a .1) (g .1)
+
 -- rows after rows
 pub none-before : (rs ss : List Row) → GivesNone (rs ++ ss) → GivesNone rs × GivesNone ss
 none-before [] ss g = (tt, g)

@@ -30,11 +30,11 @@ module _ (L : Lent) where
   Backed from-the-start = Unit {0}
   Backed (after P) = Sound (problem L) P
 
-  ask-eleven : (room : ℕ) (q : Asked) → GivesNone (rows L room) → Backed q → NoneLeft (problem L) q → Gives (askRows L room q) 11
+  pub ask-eleven : (room : ℕ) (q : Asked) → GivesNone (rows L room) → Backed q → NoneLeft (problem L) q → Gives (askRows L room q) 11
   ask-eleven room from-the-start g b n = gives-after (rows L room) _ 11 g (inl (n, refl))
   ask-eleven room (after P) g b n = gives-after (rows L room) _ 11 g (inr (λ m. m b, inl (n, refl)))
 
-  ask-none : (room : ℕ) (q : Asked) → GivesNone (rows L room) → Backed q → ¬ NoneLeft (problem L) q → GivesNone (askRows L room q)
+  pub ask-none : (room : ℕ) (q : Asked) → GivesNone (rows L room) → Backed q → ¬ NoneLeft (problem L) q → GivesNone (askRows L room q)
   ask-none room from-the-start g b n = none-after (rows L room) _ g (n, tt)
   ask-none room (after P) g b n = none-after (rows L room) _ g (λ m. m b, (n, tt))
 

@@ -1,6 +1,20 @@
 // What the calls of the listing answer, and the record that each turn moves forward (document 01, "Calls and what they give back").
+mod ask;
+mod holds;
+mod keep;
+mod least;
+mod narrow;
+mod order;
+mod pick_slot;
+mod settle;
+mod table;
+mod walk;
+
 use basis::Refusal;
+use catalogue::Settings;
 use pacsolve::Cost;
+ghost use Rattle.catalogue.specs.Tables.{lent};
+ghost use Rattle.lister.specs.Answers.{Firsts, Nexts};
 
 pub enum Answer {
     Refused(Refusal),
@@ -25,4 +39,52 @@ pub struct Best {
     pub found: bool,
     pub set: u64,
     pub cost: Cost,
+}
+
+// What is known of the plans that are looked for at a node: they have all of must and none of ban. Where alive is false there are none.
+pub struct Node {
+    pub must: u64,
+    pub ban: u64,
+    pub alive: bool,
+}
+
+// What is to be done next at a node.
+pub enum Pick {
+    // Decide this slot, which has two choices or more.
+    Split(usize),
+    // The only choice of this slot must be there too.
+    Force(usize),
+    // A slot has no choice.
+    Dead,
+    // Every slot has one choice, which must be there.
+    Complete,
+}
+
+// First: the least sound plan.
+pub fn first(
+    entries: &[u16],
+    slots: &[u16],
+    text: &[u8],
+    settings: Settings,
+    objectives: &[u8],
+    plan: &mut [u8],
+) -> Answer
+    ensures { λ r. ⌜ Firsts (lent (now (entries .entry)) (now (slots .entry)) (now (text .entry)) settings (now (objectives .entry))) (now (plan .entry)) r (now (plan .exit)) ⌝ }
+{
+    ask::ask(entries, slots, text, settings, objectives, false, 0, plan)
+}
+
+// Next: the least sound plan after the one that the buffer and the set hold.
+pub fn next(
+    entries: &[u16],
+    slots: &[u16],
+    text: &[u8],
+    settings: Settings,
+    objectives: &[u8],
+    set: u64,
+    plan: &mut [u8],
+) -> Answer
+    ensures { λ r. ⌜ Nexts (lent (now (entries .entry)) (now (slots .entry)) (now (text .entry)) settings (now (objectives .entry))) set (now (plan .entry)) r (now (plan .exit)) ⌝ }
+{
+    ask::ask(entries, slots, text, settings, objectives, true, set, plan)
 }
