@@ -97,11 +97,11 @@ module _ (L : Lent) (buffer : List ℕ) where
       answered-none e = asked-none (askedIf b (plan set buffer)) backed best buffer′ (rw aside at f) e
 
 -- what a survey says: the rows give its number where that is not 0, and else none of them applies
-module _ (L : Lent) (buffer : List ℕ) (a : Survey) (surveyed : Surveys L (length buffer) a) where
-  rows-above-zero : (n : ℕ) → Gives (rows L (length buffer)) n → 0 < n
+module _ (L : Lent) (room : ℕ) (a : Survey) (surveyed : Surveys L room a) where
+  rows-above-zero : (n : ℕ) → Gives (rows L room) n → 0 < n
   unfolding rows
   rows-above-zero n g =
-      gives-among (λ k. 0 < k) (rows L (length buffer)) n (
+      gives-among (λ k. 0 < k) (rows L room) n (
         omega arith,
         (
           omega arith,
@@ -139,16 +139,22 @@ module _ (L : Lent) (buffer : List ℕ) (a : Survey) (surveyed : Surveys L (leng
         ),
       ) g
 
-  pub survey-refused : (q : Asked) → ¬ (a .number ≡ 0) → Lists L q buffer (Refused (refusal (a .number))) buffer
-  survey-refused q n = go surveyed
+  pub survey-gives : ¬ (a .number ≡ 0) → Gives (rows L room) (a .number)
+  survey-gives n = go surveyed
     where
-      go : Surveys L (length buffer) a → Lists L q buffer (Refused (refusal (a .number))) buffer
-      go (surveyed-refused g z) = asked-refused L buffer q (a .number) g
+      go : Surveys L room a → Gives (rows L room) (a .number)
+      go (surveyed-refused g z) = g
       go (surveyed-sane g e i) = absurd (n e)
 
-  pub survey-sane : a .number ≡ 0 → GivesNone (rows L (length buffer)) × Indexes L (a .fits)
+  pub survey-sane : a .number ≡ 0 → GivesNone (rows L room) × Indexes L (a .fits)
   survey-sane e = go surveyed
     where
-      go : Surveys L (length buffer) a → GivesNone (rows L (length buffer)) × Indexes L (a .fits)
+      go : Surveys L room a → GivesNone (rows L room) × Indexes L (a .fits)
       go (surveyed-refused g z) = absurd (omega (arith, rows-above-zero (a .number) g))
       go (surveyed-sane g f i) = (g, i)
+
+  pub survey-none : a .number ≡ 0 → GivesNone (rows L room)
+  survey-none e = survey-sane e .0
+
+pub survey-refused : (L : Lent) (buffer : List ℕ) (a : Survey) → Surveys L (length buffer) a → (q : Asked) → ¬ (a .number ≡ 0) → Lists L q buffer (Refused (refusal (a .number))) buffer
+survey-refused L buffer a s q n = asked-refused L buffer q (a .number) (survey-gives L (length buffer) a s n)

@@ -19,6 +19,7 @@ pub mod Settling
 pub mod Slots
 pub mod Stores
 pub mod Told
+pub mod TurnCore
 pub mod TurnOutcome
 pub mod TurnedOver
 pub mod Unsound

@@ -4,6 +4,8 @@ use mathlib.Core.List.{List, [], _∷_, _++_}
 use mathlib.Core.Logic.{_⊎_}
 use Prim.Native.Nat.{ℕ, _<_}
 use lib.ListN.{length}
+use Rattle.basis.specs.declared.Refusal.{Refusal}
+use Rattle.pacsolve.specs.declared.Cost.{Cost}
 use Rattle.basis.specs.Rows.{Row, row, Gives, GivesNone, refusal}
 use Rattle.pacsolve.specs.Plan.{Plan as A-plan, plan, Sound}
 use Rattle.pacsolve.specs.Listing.{Asked, from-the-start, after, Least, NoneLeft}
@@ -11,7 +13,7 @@ use Rattle.catalogue.specs.Tables.{Lent}
 use Rattle.catalogue.specs.Refusals.{rows}
 use Rattle.catalogue.specs.Gives.{problem}
 use Rattle.lister.specs.declared.Answer.{Answer}
-use Rattle.lister.specs.declared.Answer.the-variants.{Refused}
+use Rattle.lister.specs.declared.Answer.the-variants.{Refused, Plan}
 use Rattle.lister.specs.declared.ListingRecord.{ListingRecord}
 use Rattle.lister.specs.Answers.{given}
 
@@ -52,3 +54,12 @@ pub data Turns (L : Lent) (r : ListingRecord) (buffer : List ℕ) (a : Answer) (
   refused : {n : ℕ} → Gives (turnRows L r buffer) n → a ≡ Refused (refusal n) → Kept r n r′ → buffer′ ≡ buffer → Turns L r buffer a r′ buffer′
   found : {q : Asked} {P : A-plan} → GivesNone (turnRows L r buffer) → Asks r buffer q → Least (problem L) q P
       → a ≡ given L P → r′ ≡ listing running (P .set) → buffer′ ≡ P .table → Turns L r buffer a r′ buffer′
+
+-- the record after an answer
+pub data MovesOn (r : ListingRecord) (a : Answer) (r′ : ListingRecord) : Type 0 where
+  refused-with : {f : Refusal} → a ≡ Refused f → Kept r (f .number) r′ → MovesOn r a r′
+  given-plan : {set : ℕ} {c : Cost} → a ≡ Plan set c → r′ ≡ listing running set → MovesOn r a r′
+
+-- what a record past running is refused with
+pub record Closing (L : Lent) (room stage n : ℕ) : Type 0 where
+  pub gives : running < stage → Gives (rows L room ++ (row 9 (ended < stage) ∷ row 11 (stage ≡ ended) ∷ [])) n

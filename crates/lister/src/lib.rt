@@ -1,5 +1,6 @@
 // What the calls of the listing answer, and the record that each turn moves forward (document 01, "Calls and what they give back").
 mod ask;
+mod by_value;
 mod holds;
 mod keep;
 mod least;
@@ -15,6 +16,7 @@ use catalogue::Settings;
 use pacsolve::Cost;
 ghost use Rattle.catalogue.specs.Tables.{lent};
 ghost use Rattle.lister.specs.Answers.{Firsts, Nexts};
+ghost use Rattle.lister.specs.Turns.{Turns};
 
 pub enum Answer {
     Refused(Refusal),
@@ -87,4 +89,22 @@ pub fn next(
     ensures { λ r. ⌜ Nexts (lent (now (entries .entry)) (now (slots .entry)) (now (text .entry)) settings (now (objectives .entry))) set (now (plan .entry)) r (now (plan .exit)) ⌝ }
 {
     ask::ask(entries, slots, text, settings, objectives, true, set, plan)
+}
+
+// The listing a turn further: the record is copied out of its place, moved on by value, and stored.
+pub fn turn(
+    listing: &mut ListingRecord,
+    entries: &[u16],
+    slots: &[u16],
+    text: &[u8],
+    settings: Settings,
+    objectives: &[u8],
+    plan: &mut [u8],
+) -> Answer
+    ensures { λ r. ⌜ Turns (lent (now (entries .entry)) (now (slots .entry)) (now (text .entry)) settings (now (objectives .entry))) (now (listing .entry)) (now (plan .entry)) r (now (listing .exit)) (now (plan .exit)) ⌝ }
+{
+    let was = *listing;
+    let t = by_value::turned(was, entries, slots, text, settings, objectives, plan);
+    *listing = t.listing;
+    t.answer
 }

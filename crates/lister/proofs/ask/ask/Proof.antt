@@ -30,7 +30,7 @@ returns c =
 unsound-if-requires : tie.Need-unsound-if-requires
 unsound-if-requires c κs =
     let l = (lent (c .before .before .before .before .before .before .before .before .before .before .args .entries .now) (c .before .before .before .before .before .before .before .before .before .before .args .slots .now) (c .before .before .before .before .before .before .before .before .before .before .args .text .now) (c .before .before .before .before .before .before .before .before .before .before .args .settings) (c .before .before .before .before .before .before .before .before .before .before .args .objectives .now)) in
-    let g = survey-sane l (c .before .before .before .before .before .before .before .before .before .before .args .plan .now) _ (c .before .before .before .before .survey .ensures) (c .before .before .before .if1 .left) in
+    let g = survey-sane l (length (c .before .before .before .before .before .before .before .before .before .before .args .plan .now)) _ (c .before .before .before .before .survey .ensures) (c .before .before .before .if1 .left) in
     record { few = few-slots l (c .before .before .before .before .before .before .before .before .before .before .args .plan .now) (g .0) _ (g .1) }
 
 -- src/ask.rt:71:9
@@ -41,14 +41,14 @@ same-length c = search needs
 returns-2 : tie.Need-returns-2
 returns-2 c =
     let l = (lent (c .before .before .before .before .before .before .before .before .before .before .before .before .args .entries .now) (c .before .before .before .before .before .before .before .before .before .before .before .before .args .slots .now) (c .before .before .before .before .before .before .before .before .before .before .before .before .args .text .now) (c .before .before .before .before .before .before .before .before .before .before .before .before .args .settings) (c .before .before .before .before .before .before .before .before .before .before .before .before .args .objectives .now)) in
-    let g = survey-sane l (c .before .before .before .before .before .before .before .before .before .before .before .before .args .plan .now) _ (c .before .before .before .before .before .before .survey .ensures) (c .before .before .before .before .before .if1 .left) in
+    let g = survey-sane l (length (c .before .before .before .before .before .before .before .before .before .before .before .before .args .plan .now)) _ (c .before .before .before .before .before .before .survey .ensures) (c .before .before .before .before .before .if1 .left) in
     answered-unsound l (c .before .before .before .before .before .before .before .before .before .before .before .before .args .plan .now) (g .0) _ (g .1) _ _ _ (c .before .unsound-if .ensures (c .before .before .before .before .before .before .before .before .before .before .before .before .args .objectives .now)) (c .if2 .taken)
 
 -- src/ask.rt:73:17
 kept-aside-requires : tie.Need-kept-aside-requires
 kept-aside-requires c κs =
     let l = (lent (c .before .before .before .before .before .before .before .before .before .before .before .before .before .args .entries .now) (c .before .before .before .before .before .before .before .before .before .before .before .before .before .args .slots .now) (c .before .before .before .before .before .before .before .before .before .before .before .before .before .args .text .now) (c .before .before .before .before .before .before .before .before .before .before .before .before .before .args .settings) (c .before .before .before .before .before .before .before .before .before .before .before .before .before .args .objectives .now)) in
-    let g = survey-sane l (c .before .before .before .before .before .before .before .before .before .before .before .before .before .args .plan .now) _ (c .before .before .before .before .before .before .before .survey .ensures) (c .before .before .before .before .before .before .if1 .left) in
+    let g = survey-sane l (length (c .before .before .before .before .before .before .before .before .before .before .before .before .before .args .plan .now)) _ (c .before .before .before .before .before .before .before .survey .ensures) (c .before .before .before .before .before .before .if1 .left) in
     few-bytes l (c .before .before .before .before .before .before .before .before .before .before .before .before .before .args .plan .now) (g .0) _ (g .1)
 
 -- src/ask.rt:74:9
@@ -59,7 +59,7 @@ cost-requires c κs = search needs
 array-share-prefix-aside : tie.Need-array-share-prefix-aside
 array-share-prefix-aside c =
     let l = (lent (c .before .before .before .before .before .before .before .before .before .before .before .before .before .before .before .args .entries .now) (c .before .before .before .before .before .before .before .before .before .before .before .before .before .before .before .args .slots .now) (c .before .before .before .before .before .before .before .before .before .before .before .before .before .before .before .args .text .now) (c .before .before .before .before .before .before .before .before .before .before .before .before .before .before .before .args .settings) (c .before .before .before .before .before .before .before .before .before .before .before .before .before .before .before .args .objectives .now)) in
-    let g = survey-sane l (c .before .before .before .before .before .before .before .before .before .before .before .before .before .before .before .args .plan .now) _ (c .before .before .before .before .before .before .before .before .before .survey .ensures) (c .before .before .before .before .before .before .before .before .if1 .left) in
+    let g = survey-sane l (length (c .before .before .before .before .before .before .before .before .before .before .before .before .before .before .before .args .plan .now)) _ (c .before .before .before .before .before .before .before .before .before .survey .ensures) (c .before .before .before .before .before .before .before .before .if1 .left) in
     let few = few-bytes l (c .before .before .before .before .before .before .before .before .before .before .before .before .before .before .before .args .plan .now) (g .0) _ (g .1) in
     let long : length (c .before .kept-aside .result) ≡ 256 = good-length (eInt w8) 256 (c .before .kept-aside .result) _ (c .before .kept-aside .ok) in
     omega arith
@@ -73,7 +73,7 @@ slice-aggregate-least c =
 least-requires : tie.Need-least-requires
 least-requires c κs =
     let l = (lent (c .before .before .before .before .before .before .before .before .before .before .before .before .before .before .before .before .before .args .entries .now) (c .before .before .before .before .before .before .before .before .before .before .before .before .before .before .before .before .before .args .slots .now) (c .before .before .before .before .before .before .before .before .before .before .before .before .before .before .before .before .before .args .text .now) (c .before .before .before .before .before .before .before .before .before .before .before .before .before .before .before .before .before .args .settings) (c .before .before .before .before .before .before .before .before .before .before .before .before .before .before .before .before .before .args .objectives .now)) in
-    let g = survey-sane l (c .before .before .before .before .before .before .before .before .before .before .before .before .before .before .before .before .before .args .plan .now) _ (c .before .before .before .before .before .before .before .before .before .before .before .survey .ensures) (c .before .before .before .before .before .before .before .before .before .before .if1 .left) in
+    let g = survey-sane l (length (c .before .before .before .before .before .before .before .before .before .before .before .before .before .before .before .before .before .args .plan .now)) _ (c .before .before .before .before .before .before .before .before .before .before .before .survey .ensures) (c .before .before .before .before .before .before .before .before .before .before .if1 .left) in
     posed l (c .before .before .before .before .before .before .before .before .before .before .before .before .before .before .before .before .before .args .plan .now) (g .0) _ (g .1) _ _ (ap length (c .before .before .before .kept-aside .ensures)) (λ e. c .before .before .cost .ensures (c .before .before .before .before .before .before .before .before .before .before .before .before .before .before .before .before .before .args .slots .now) (c .before .before .before .before .before .before .before .before .before .before .before .survey .result .fits) (c .before .before .before .before .before .before .before .before .before .before .before .before .before .before .before .before .before .args .settings))
 
 -- src/ask.rt:83:9
@@ -84,7 +84,7 @@ same-length-2 c = search needs
 returns-3 : tie.Need-returns-3
 returns-3 c =
     let l = (lent (c .before .before .before .before .before .before .before .before .before .before .before .before .before .before .before .before .before .before .before .before .before .before .args .entries .now) (c .before .before .before .before .before .before .before .before .before .before .before .before .before .before .before .before .before .before .before .before .before .before .args .slots .now) (c .before .before .before .before .before .before .before .before .before .before .before .before .before .before .before .before .before .before .before .before .before .before .args .text .now) (c .before .before .before .before .before .before .before .before .before .before .before .before .before .before .before .before .before .before .before .before .before .before .args .settings) (c .before .before .before .before .before .before .before .before .before .before .before .before .before .before .before .before .before .before .before .before .before .before .args .objectives .now)) in
-    let g = survey-sane l (c .before .before .before .before .before .before .before .before .before .before .before .before .before .before .before .before .before .before .before .before .before .before .args .plan .now) _ (c .before .before .before .before .before .before .before .before .before .before .before .before .before .before .before .before .survey .ensures) (c .before .before .before .before .before .before .before .before .before .before .before .before .before .before .before .if1 .left) in
+    let g = survey-sane l (length (c .before .before .before .before .before .before .before .before .before .before .before .before .before .before .before .before .before .before .before .before .before .before .args .plan .now)) _ (c .before .before .before .before .before .before .before .before .before .before .before .before .before .before .before .before .survey .ensures) (c .before .before .before .before .before .before .before .before .before .before .before .before .before .before .before .if1 .left) in
     answered-found l (c .before .before .before .before .before .before .before .before .before .before .before .before .before .before .before .before .before .before .before .before .before .before .args .plan .now) (g .0) _ (g .1) _ _ _ (c .before .before .before .before .before .before .before .before .before .before .before .unsound-if .ensures (c .before .before .before .before .before .before .before .before .before .before .before .before .before .before .before .before .before .before .before .before .before .before .args .objectives .now)) (c .before .before .before .before .before .before .before .before .before .before .if2 .left) _ (c .before .before .before .before .before .before .before .before .kept-aside .ensures) _ _ (c .before .before .before .before .least .ensures) (c .before .if3 .taken)
 
 -- src/ask.rt:51:1
@@ -95,7 +95,7 @@ same-length-3 c = search needs
 returns-4 : tie.Need-returns-4
 returns-4 c =
     let l = (lent (c .before .before .before .before .before .before .before .before .before .before .before .before .before .before .before .before .before .before .before .before .before .args .entries .now) (c .before .before .before .before .before .before .before .before .before .before .before .before .before .before .before .before .before .before .before .before .before .args .slots .now) (c .before .before .before .before .before .before .before .before .before .before .before .before .before .before .before .before .before .before .before .before .before .args .text .now) (c .before .before .before .before .before .before .before .before .before .before .before .before .before .before .before .before .before .before .before .before .before .args .settings) (c .before .before .before .before .before .before .before .before .before .before .before .before .before .before .before .before .before .before .before .before .before .args .objectives .now)) in
-    let g = survey-sane l (c .before .before .before .before .before .before .before .before .before .before .before .before .before .before .before .before .before .before .before .before .before .args .plan .now) _ (c .before .before .before .before .before .before .before .before .before .before .before .before .before .before .before .survey .ensures) (c .before .before .before .before .before .before .before .before .before .before .before .before .before .before .if1 .left) in
+    let g = survey-sane l (length (c .before .before .before .before .before .before .before .before .before .before .before .before .before .before .before .before .before .before .before .before .before .args .plan .now)) _ (c .before .before .before .before .before .before .before .before .before .before .before .before .before .before .before .survey .ensures) (c .before .before .before .before .before .before .before .before .before .before .before .before .before .before .if1 .left) in
     answered-none l (c .before .before .before .before .before .before .before .before .before .before .before .before .before .before .before .before .before .before .before .before .before .args .plan .now) (g .0) _ (g .1) _ _ _ (c .before .before .before .before .before .before .before .before .before .before .unsound-if .ensures (c .before .before .before .before .before .before .before .before .before .before .before .before .before .before .before .before .before .before .before .before .before .args .objectives .now)) (c .before .before .before .before .before .before .before .before .before .if2 .left) _ (c .before .before .before .before .before .before .before .kept-aside .ensures) _ _ (c .before .before .before .least .ensures) (c .if3 .left)
 
 pub ask-spec : {M : Type 1} → statement M
