@@ -9,6 +9,19 @@ use Rattle.pacsolve.specs.Problem.{Problem}
 use Rattle.pacsolve.specs.Plan.{Plan, Rooted, Reached, Named, Fitting, Consistent, Acyclic, faults}
 use Rattle.plan.specs.Judged.{FirstFault}
 
+-- the conditions up to the second, the third and so on
+abbrev pub UpTo2 : Problem → Plan → Type 0
+UpTo2 p P = Rooted p P × Reached p P
+
+abbrev pub UpTo3 : Problem → Plan → Type 0
+UpTo3 p P = UpTo2 p P × Named p P
+
+abbrev pub UpTo4 : Problem → Plan → Type 0
+UpTo4 p P = UpTo3 p P × Fitting p P
+
+abbrev pub UpTo5 : Problem → Plan → Type 0
+UpTo5 p P = UpTo4 p P × Consistent p P
+
 module _ (p : Problem) (P : Plan) where
   fault : (k : ℕ) → ¬ (k ≡ 0) → Gives (faults p P) k → FirstFault p P k
   fault k n g = record { none = λ z. absurd (n z); some = λ m. g }
@@ -16,33 +29,38 @@ module _ (p : Problem) (P : Plan) where
   pub fault-1 : ¬ Rooted p P → FirstFault p P 1
   fault-1 n = fault 1 (omega arith) (inl (n, refl))
 
-  module _ (one : Rooted p P) where
-    pub fault-2 : ¬ Reached p P → FirstFault p P 2
-    fault-2 n = fault 2 (omega arith) (inr (λ x. x one, inl (n, refl)))
+  pub fault-2 : Rooted p P → ¬ Reached p P → FirstFault p P 2
+  fault-2 h n = fault 2 (omega arith) (inr (λ x. x h, inl (n, refl)))
 
-    module _ (two : Reached p P) where
-      pub fault-3 : ¬ Named p P → FirstFault p P 3
-      fault-3 n = fault 3 (omega arith) (inr (λ x. x one, inr (λ x. x two, inl (n, refl))))
+  pub fault-3 : UpTo2 p P → ¬ Named p P → FirstFault p P 3
+  fault-3 h n = fault 3 (omega arith) (inr (λ x. x (h .0), inr (λ x. x (h .1), inl (n, refl))))
 
-      module _ (three : Named p P) where
-        pub fault-4 : ¬ Fitting p P → FirstFault p P 4
-        fault-4 n = fault 4 (omega arith) (inr (λ x. x one, inr (λ x. x two, inr (λ x. x three, inl (n, refl)))))
+  pub fault-4 : UpTo3 p P → ¬ Fitting p P → FirstFault p P 4
+  fault-4 h n = fault 4 (omega arith) (inr (λ x. x (h .0 .0), inr (λ x. x (h .0 .1), inr (λ x. x (h .1), inl (n, refl)))))
 
-        module _ (four : Fitting p P) where
-          pub fault-5 : ¬ Consistent p P → FirstFault p P 5
-          fault-5 n = fault 5 (omega arith) (inr (λ x. x one, inr (λ x. x two, inr (λ x. x three, inr (λ x. x four, inl (n, refl))))))
+  pub fault-5 : UpTo4 p P → ¬ Consistent p P → FirstFault p P 5
+  fault-5 h n =
+      fault 5 (omega arith) (inr (λ x. x (h .0 .0 .0), inr (λ x. x (h .0 .0 .1), inr (λ x. x (h .0 .1), inr (λ x. x (h .1), inl (n, refl))))))
 
-          module _ (five : Consistent p P) where
-            pub fault-6 : ¬ Acyclic p P → FirstFault p P 6
-            fault-6 n =
-                fault 6 (omega arith) (inr (λ x. x one, inr (λ x. x two, inr (λ x. x three, inr (λ x. x four, inr (λ x. x five, inl (n, refl)))))))
+  pub fault-6 : UpTo5 p P → ¬ Acyclic p P → FirstFault p P 6
+  fault-6 h n =
+      fault 6 (omega arith)
+      (inr (λ x. x (h .0 .0 .0 .0), inr (λ x. x (h .0 .0 .0 .1), inr (λ x. x (h .0 .0 .1), inr (λ x. x (h .0 .1), inr (λ x. x (h .1), inl (n, refl)))))))
 
-            pub fault-none : Acyclic p P → FirstFault p P 0
-            fault-none six =
-                record {
-                  none = λ z. record { rooted = one; reached = two; named = three; fitting = four; consistent = five; acyclic = six };
-                  some = λ n. absurd (n refl);
-                }
+  pub fault-none : UpTo5 p P → Acyclic p P → FirstFault p P 0
+  fault-none h six =
+      record {
+        none = λ z.
+            record {
+              rooted = h .0 .0 .0 .0;
+              reached = h .0 .0 .0 .1;
+              named = h .0 .0 .1;
+              fitting = h .0 .1;
+              consistent = h .1;
+              acyclic = six;
+            };
+        some = λ n. absurd (n refl);
+      }
 
 -- one row of faults, of a condition that holds exactly if another does
 carried : {A B G H : Type 0} {k n : ℕ} → A ↔ B → (G → H) → (¬ A × (k ≡ n)) ⊎ (¬ ¬ A × G) → (¬ B × (k ≡ n)) ⊎ (¬ ¬ B × H)

@@ -1,3 +1,4 @@
+-- The laws behind a check of a plan: tests and answers, walks through a set, what is reached, closed rows, totals, the first fault, and demand 2.
 pub mod Amounts
 pub mod Answers
 pub mod Carried

@@ -1,3 +1,4 @@
+-- What a check of a plan may answer, and what each function behind it gives.
 pub mod Check
 pub mod Closure
 pub mod Growth

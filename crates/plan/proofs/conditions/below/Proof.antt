@@ -17,7 +17,10 @@ returns : tie.Need-returns
 returns c =
     let set = c .before .args .set in
     let n = c .before .args .n in
-    decides-by (λ z e m. member-below n set e (omega (arith, div-lt-iff-lt-mul {k = 2 ^ n} {x = set} {y = 1} (pow-pos n) .0 (omega arith))) m) (λ f. div-eq-of-lt (below-by-members n set f)) (decides-eq (set / 2 ^ n) 0)
+    decides-by
+    (λ z e m. member-below n set e (omega (arith, div-lt-iff-lt-mul {k = 2 ^ n} {x = set} {y = 1} (pow-pos n) .0 (omega arith))) m)
+    (λ f. div-eq-of-lt (below-by-members n set f))
+    (decides-eq (set / 2 ^ n) 0)
 
 returns-2 : tie.Need-returns-2
 returns-2 c = answer-yes (λ e m. omega (arith, member-below 64 (c .before .args .set) e (omega arith) m))

@@ -40,7 +40,8 @@ repeated-requires : tie.Need-repeated-requires Inv-loop μ-loop
 repeated-requires c κs = search needs
 
 -- what is added for the member e
-added : (c : tie.After-repeated Inv-loop μ-loop) → c .repeated .result ≡ repeats (c .before .before .before .before .before .before .args .entries .now) (c .before .before .before .before .before .before .args .set) (c .before .before .loop .e)
+added : (c : tie.After-repeated Inv-loop μ-loop)
+    → let args = c .before .before .before .before .before .before .args in c .repeated .result ≡ repeats (args .entries .now) (args .set) (c .before .before .loop .e)
 added c = repeats-counted _ _ _ (c .repeated .ensures)
 
 add-total : tie.Need-add-total Inv-loop μ-loop
