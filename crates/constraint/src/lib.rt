@@ -5,10 +5,10 @@ use reader::constraint;
 
 mod bound;
 mod keys;
-mod number;
+pub mod number;
 mod range;
 mod reader;
-mod word;
+pub mod word;
 
 ghost use mathlib.Core.Path.{_≡_};
 ghost use Prim.Native.Nat.{_≤_};

@@ -184,12 +184,12 @@ lines-bytes-or-not (suc n) bs =
     (λ r. rw (r .spelled) (first-cut n (r .lines) (r .ending) (r .few) (r .each) (r .ends)))
     (either-or-not (ending-or-not bs) (after-or-not crlf (cut-or-not line-bytes-or-not (lines-bytes-or-not n)) bs))
 
-spelled-with : (text : List ℕ) (lines : List Line) (s : List ℕ) → All LineOk lines → Ending s → text ≡ header ++ (body lines ++ s) → Spelled text lines
+pub spelled-with : (text : List ℕ) (lines : List Line) (s : List ℕ) → All LineOk lines → Ending s → text ≡ header ++ (body lines ++ s) → Spelled text lines
 spelled-with text lines s each (inl e) f = (each, inl (cc (append-nil (body lines))))
 spelled-with text lines s each (inr e) f = (each, inr (cc))
 
 -- no more lines than bytes
-lines-few : (lines : List Line) → length lines ≤ length (body lines)
+pub lines-few : (lines : List Line) → length lines ≤ length (body lines)
 lines-few [] = omega arith
 lines-few (line ∷ lines) = simp length-append (omega (arith, lines-few lines))
 

@@ -2,3 +2,15 @@ pub mod Unique
 pub mod Decided
 pub mod Outcome
 pub mod Tables
+pub mod Words
+pub mod Fields
+pub mod Lines
+pub mod Found
+pub mod Walks
+pub mod Counted
+pub mod Names
+pub mod Marks
+pub mod Rows
+pub mod Filled
+pub mod Answers
+pub mod Accepted

@@ -50,11 +50,10 @@ read-some text entries slots = go (gives-some (rows text entries slots) (settled
     go (inr g) (yes l) = (_, _, _, read g (l .1) refl refl refl)
     go (inr g) (no n) = absurd (g .1 .0 n)
 
--- a text in the layout with as many entries and slots as there may be is read
-pub read-of : {text : List ℕ} {lines : List Line} (entries slots : List ℕ) → Lays text lines → length entries ≡ 320 → length slots ≡ 1024
-    → 0 < entryCount lines → entryCount lines ≤ 64 → slotCount lines ≤ 256
-    → Reads text entries slots (Holds (entryCount lines) (slotCount lines)) (entryTable lines ++ drop (5 * entryCount lines) entries) (slotTable lines ++ drop (4 * slotCount lines) slots)
-read-of {text} {lines} entries slots l e s some few-entries few-slots = read (sizes, ((λ n. n (lines, l)), (entries-fit, (slots-fit, tt)))) l refl refl refl
+-- no refusal applies to a text in the layout with as many entries and slots as there may be
+pub no-refusal : {text : List ℕ} {lines : List Line} (entries slots : List ℕ) → Lays text lines → length entries ≡ 320 → length slots ≡ 1024
+    → 0 < entryCount lines → entryCount lines ≤ 64 → slotCount lines ≤ 256 → GivesNone (rows text entries slots)
+no-refusal {text} {lines} entries slots l e s some few-entries few-slots = (sizes, ((λ n. n (lines, l)), (entries-fit, (slots-fit, tt))))
   where
     sizes : ¬ ((¬ (length entries ≡ 320)) ⊎ (¬ (length slots ≡ 1024)))
     sizes (inl n) = n e
@@ -68,3 +67,9 @@ read-of {text} {lines} entries slots l e s some few-entries few-slots = read (si
 
     slots-fit : ¬ ((ls : List Line) × Lays text ls × (256 < slotCount ls))
     slots-fit x = omega (arith, ap slotCount (one-sheet (x .1) l), x .2)
+
+-- such a text is read
+pub read-of : {text : List ℕ} {lines : List Line} (entries slots : List ℕ) → Lays text lines → length entries ≡ 320 → length slots ≡ 1024
+    → 0 < entryCount lines → entryCount lines ≤ 64 → slotCount lines ≤ 256
+    → Reads text entries slots (Holds (entryCount lines) (slotCount lines)) (entryTable lines ++ drop (5 * entryCount lines) entries) (slotTable lines ++ drop (4 * slotCount lines) slots)
+read-of entries slots l e s some few-entries few-slots = read (no-refusal entries slots l e s some few-entries few-slots) l refl refl refl

@@ -13,7 +13,7 @@ use Rattle.csv.specs.Layout.{header, crlf, Line, entry, slot, written, E
 use Rattle.csv.specs.Says.{entryCount, slotCount, entryRows, slotRows, entryTable, slotTable, packages, fieldStart}
 use Rattle.csv.proofs.Unique.{body-first, ended}
 
-entry-rows-length : (names : List (List ℕ)) (lines : List Line) → length (entryRows names lines) ≡ 5 * entryCount lines
+pub entry-rows-length : (names : List (List ℕ)) (lines : List Line) → length (entryRows names lines) ≡ 5 * entryCount lines
 entry-rows-length names [] = refl
 entry-rows-length names (entry name x y z weight ∷ lines) = omega (arith, entry-rows-length names lines)
 entry-rows-length names (slot name constraint ∷ lines) = entry-rows-length names lines
@@ -21,7 +21,7 @@ entry-rows-length names (slot name constraint ∷ lines) = entry-rows-length nam
 pub entry-table-length : (lines : List Line) → length (entryTable lines) ≡ 5 * entryCount lines
 entry-table-length lines = entry-rows-length (packages lines) lines
 
-slot-rows-length : (names : List (List ℕ)) (declared at : ℕ) (lines : List Line) → length (slotRows names declared at lines) ≡ 4 * slotCount lines
+pub slot-rows-length : (names : List (List ℕ)) (declared at : ℕ) (lines : List Line) → length (slotRows names declared at lines) ≡ 4 * slotCount lines
 slot-rows-length names declared at [] = refl
 slot-rows-length names declared at (entry name x y z weight ∷ lines) = slot-rows-length names (suc declared) _ lines
 slot-rows-length names declared at (slot name constraint ∷ lines) =

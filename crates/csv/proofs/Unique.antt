@@ -18,7 +18,7 @@ name-byte-above b (inl h) = omega arith
 name-byte-above b (inr (inl h)) = omega arith
 name-byte-above b (inr (inr h)) = omega arith
 
-NotCr : ℕ → Type 0
+unfoldable pub NotCr : ℕ → Type 0
 NotCr b = ¬ (b ≡ 13)
 
 no-cr-in-name : (bs : List ℕ) → All NameByte bs → All NotCr bs
@@ -33,7 +33,7 @@ no-cr-in-number bs p = all-weaken Digit NotCr (λ b h. omega arith) bs p
 no-cr-field : (field sign rest : List ℕ) → All NotCr field → All NotCr sign → All NotCr rest → All NotCr (field ++ (sign ++ rest))
 no-cr-field field sign rest f s r = all-append NotCr field (sign ++ rest) f (all-append NotCr sign rest s r)
 
-no-cr : (line : Line) → LineOk line → All NotCr (written line)
+pub no-cr : (line : Line) → LineOk line → All NotCr (written line)
 unfolding NotCr
 no-cr (entry name x y z weight) ok =
     no-cr-field name (bytes ",") _ (no-cr-in-name name (ok .named .plain)) (omega arith)
@@ -46,13 +46,13 @@ no-cr (slot name constraint) ok =
     (no-cr-field name (bytes ",") constraint (no-cr-in-name name (ok .named .plain)) (omega arith)
     (all-weaken FieldByte NotCr (λ b f. f .no-cr) constraint (ok .plain)))
 
-comma-no-name : ¬ NameByte 44
+pub comma-no-name : ¬ NameByte 44
 comma-no-name h = let l = name-byte-above 44 h in omega arith
 
-comma-no-digit : ¬ Digit 44
+pub comma-no-digit : ¬ Digit 44
 comma-no-digit h = omega arith
 
-dot-no-digit : ¬ Digit 46
+pub dot-no-digit : ¬ Digit 46
 dot-no-digit h = omega arith
 
 one-entry : {name x y z weight name′ x′ y′ z′ weight′ : List ℕ} → EntryLine name x y z weight → EntryLine name′ x′ y′ z′ weight′
@@ -77,7 +77,7 @@ entry-no-slot : (name after : List ℕ) {rest : List ℕ} → 1 ≤ length name 
 entry-no-slot [] after f p e = not-suc-le-zero f
 entry-no-slot (b ∷ name) after f p e = comma-no-name (rw (head-eq-of-cons-eq e) at (p .0))
 
-one-line : (l m : Line) → LineOk l → LineOk m → written l ≡ written m → l ≡ m
+pub one-line : (l m : Line) → LineOk l → LineOk m → written l ≡ written m → l ≡ m
 one-line (entry name x y z weight) (entry name′ x′ y′ z′ weight′) a b e = one-entry a b e
 one-line (entry name x y z weight) (slot name′ constraint) a b e = absurd (entry-no-slot name _ (a .named .filled) (a .named .plain) e)
 one-line (slot name constraint) (entry name′ x y z weight) a b e = absurd (entry-no-slot name′ _ (b .named .filled) (b .named .plain) (sym e))
@@ -97,7 +97,7 @@ stops-after [] s (inl e) = rw e tt
 stops-after [] s (inr e) = rw e (λ h. h refl)
 stops-after (line ∷ lines) s h = λ k. k refl
 
-ending-short : (s : List ℕ) → Ending s → length s ≤ 2
+pub ending-short : (s : List ℕ) → Ending s → length s ≤ 2
 ending-short s (inl e) = rw e (omega arith)
 ending-short s (inr e) = rw e (omega arith)
 
@@ -106,7 +106,7 @@ line-filled (entry name x y z weight) ok = rw length-append (omega arith)
 line-filled (slot name constraint) ok = omega arith
 
 -- an ending is no further line: a blank record is none
-no-further : (line : Line) (lines : List Line) (s t : List ℕ) → LineOk line → Ending s → ¬ (s ≡ body (line ∷ lines) ++ t)
+pub no-further : (line : Line) (lines : List Line) (s t : List ℕ) → LineOk line → Ending s → ¬ (s ≡ body (line ∷ lines) ++ t)
 no-further line lines s t ok u e = omega (arith, ending-short s u, line-filled line ok, simp length-append at (ap length e))
 
 pub same-lines : (ls ms : List Line) (s t : List ℕ) → All LineOk ls → All LineOk ms → Ending s → Ending t → body ls ++ s ≡ body ms ++ t → ls ≡ ms
