@@ -1,6 +1,6 @@
 // What the calls of the listing answer, and the record that each turn moves forward (document 01, "Calls and what they give back").
 mod ask;
-mod by_value;
+pub mod by_value;
 mod holds;
 mod keep;
 mod least;

@@ -17,45 +17,37 @@ use Rattle.lister.proofs.ask.unsound_if.Reads as unsound-if-reads
 use Rattle.lister.proofs.least.least.Reads as least-reads
 use Rattle.plan.proofs.costs.cost.Reads as cost-reads
 
--- src/ask.rt:64:9
 survey-requires : tie.Need-survey-requires
 survey-requires c κs = search needs
 
--- src/ask.rt:67:9
 returns : tie.Need-returns
 returns c =
     survey-refused (lent (c .before .before .before .before .before .before .before .args .entries .now) (c .before .before .before .before .before .before .before .args .slots .now) (c .before .before .before .before .before .before .before .args .text .now) (c .before .before .before .before .before .before .before .args .settings) (c .before .before .before .before .before .before .before .args .objectives .now)) _ _ (c .before .survey .ensures) _ (c .if1 .taken)
 
--- src/ask.rt:70:8
 unsound-if-requires : tie.Need-unsound-if-requires
 unsound-if-requires c κs =
     let l = (lent (c .before .before .before .before .before .before .before .before .before .before .args .entries .now) (c .before .before .before .before .before .before .before .before .before .before .args .slots .now) (c .before .before .before .before .before .before .before .before .before .before .args .text .now) (c .before .before .before .before .before .before .before .before .before .before .args .settings) (c .before .before .before .before .before .before .before .before .before .before .args .objectives .now)) in
     let g = survey-sane l (length (c .before .before .before .before .before .before .before .before .before .before .args .plan .now)) _ (c .before .before .before .before .survey .ensures) (c .before .before .before .if1 .left) in
     record { few = few-slots l (c .before .before .before .before .before .before .before .before .before .before .args .plan .now) (g .0) _ (g .1) }
 
--- src/ask.rt:71:9
 same-length : tie.Need-same-length
 same-length c = search needs
 
--- src/ask.rt:71:9
 returns-2 : tie.Need-returns-2
 returns-2 c =
     let l = (lent (c .before .before .before .before .before .before .before .before .before .before .before .before .args .entries .now) (c .before .before .before .before .before .before .before .before .before .before .before .before .args .slots .now) (c .before .before .before .before .before .before .before .before .before .before .before .before .args .text .now) (c .before .before .before .before .before .before .before .before .before .before .before .before .args .settings) (c .before .before .before .before .before .before .before .before .before .before .before .before .args .objectives .now)) in
     let g = survey-sane l (length (c .before .before .before .before .before .before .before .before .before .before .before .before .args .plan .now)) _ (c .before .before .before .before .before .before .survey .ensures) (c .before .before .before .before .before .if1 .left) in
     answered-unsound l (c .before .before .before .before .before .before .before .before .before .before .before .before .args .plan .now) (g .0) _ (g .1) _ _ _ (c .before .unsound-if .ensures (c .before .before .before .before .before .before .before .before .before .before .before .before .args .objectives .now)) (c .if2 .taken)
 
--- src/ask.rt:73:17
 kept-aside-requires : tie.Need-kept-aside-requires
 kept-aside-requires c κs =
     let l = (lent (c .before .before .before .before .before .before .before .before .before .before .before .before .before .args .entries .now) (c .before .before .before .before .before .before .before .before .before .before .before .before .before .args .slots .now) (c .before .before .before .before .before .before .before .before .before .before .before .before .before .args .text .now) (c .before .before .before .before .before .before .before .before .before .before .before .before .before .args .settings) (c .before .before .before .before .before .before .before .before .before .before .before .before .before .args .objectives .now)) in
     let g = survey-sane l (length (c .before .before .before .before .before .before .before .before .before .before .before .before .before .args .plan .now)) _ (c .before .before .before .before .before .before .before .survey .ensures) (c .before .before .before .before .before .before .if1 .left) in
     few-bytes l (c .before .before .before .before .before .before .before .before .before .before .before .before .before .args .plan .now) (g .0) _ (g .1)
 
--- src/ask.rt:74:9
 cost-requires : tie.Need-cost-requires
 cost-requires c κs = search needs
 
--- src/ask.rt:80:73
 array-share-prefix-aside : tie.Need-array-share-prefix-aside
 array-share-prefix-aside c =
     let l = (lent (c .before .before .before .before .before .before .before .before .before .before .before .before .before .before .before .args .entries .now) (c .before .before .before .before .before .before .before .before .before .before .before .before .before .before .before .args .slots .now) (c .before .before .before .before .before .before .before .before .before .before .before .before .before .before .before .args .text .now) (c .before .before .before .before .before .before .before .before .before .before .before .before .before .before .before .args .settings) (c .before .before .before .before .before .before .before .before .before .before .before .before .before .before .before .args .objectives .now)) in
@@ -64,34 +56,28 @@ array-share-prefix-aside c =
     let long : length (c .before .kept-aside .result) ≡ 256 = good-length (eInt w8) 256 (c .before .kept-aside .result) _ (c .before .kept-aside .ok) in
     omega arith
 
--- src/ask.rt:80:73
 slice-aggregate-least : tie.Need-slice-aggregate-least
 slice-aggregate-least c =
     sym (ap length (c .before .before .kept-aside .ensures))
 
--- src/ask.rt:80:9
 least-requires : tie.Need-least-requires
 least-requires c κs =
     let l = (lent (c .before .before .before .before .before .before .before .before .before .before .before .before .before .before .before .before .before .args .entries .now) (c .before .before .before .before .before .before .before .before .before .before .before .before .before .before .before .before .before .args .slots .now) (c .before .before .before .before .before .before .before .before .before .before .before .before .before .before .before .before .before .args .text .now) (c .before .before .before .before .before .before .before .before .before .before .before .before .before .before .before .before .before .args .settings) (c .before .before .before .before .before .before .before .before .before .before .before .before .before .before .before .before .before .args .objectives .now)) in
     let g = survey-sane l (length (c .before .before .before .before .before .before .before .before .before .before .before .before .before .before .before .before .before .args .plan .now)) _ (c .before .before .before .before .before .before .before .before .before .before .before .survey .ensures) (c .before .before .before .before .before .before .before .before .before .before .if1 .left) in
     posed l (c .before .before .before .before .before .before .before .before .before .before .before .before .before .before .before .before .before .args .plan .now) (g .0) _ (g .1) _ _ (ap length (c .before .before .before .kept-aside .ensures)) (λ e. c .before .before .cost .ensures (c .before .before .before .before .before .before .before .before .before .before .before .before .before .before .before .before .before .args .slots .now) (c .before .before .before .before .before .before .before .before .before .before .before .survey .result .fits) (c .before .before .before .before .before .before .before .before .before .before .before .before .before .before .before .before .before .args .settings))
 
--- src/ask.rt:83:9
 same-length-2 : tie.Need-same-length-2
 same-length-2 c = search needs
 
--- src/ask.rt:83:9
 returns-3 : tie.Need-returns-3
 returns-3 c =
     let l = (lent (c .before .before .before .before .before .before .before .before .before .before .before .before .before .before .before .before .before .before .before .before .before .before .args .entries .now) (c .before .before .before .before .before .before .before .before .before .before .before .before .before .before .before .before .before .before .before .before .before .before .args .slots .now) (c .before .before .before .before .before .before .before .before .before .before .before .before .before .before .before .before .before .before .before .before .before .before .args .text .now) (c .before .before .before .before .before .before .before .before .before .before .before .before .before .before .before .before .before .before .before .before .before .before .args .settings) (c .before .before .before .before .before .before .before .before .before .before .before .before .before .before .before .before .before .before .before .before .before .before .args .objectives .now)) in
     let g = survey-sane l (length (c .before .before .before .before .before .before .before .before .before .before .before .before .before .before .before .before .before .before .before .before .before .before .args .plan .now)) _ (c .before .before .before .before .before .before .before .before .before .before .before .before .before .before .before .before .survey .ensures) (c .before .before .before .before .before .before .before .before .before .before .before .before .before .before .before .if1 .left) in
     answered-found l (c .before .before .before .before .before .before .before .before .before .before .before .before .before .before .before .before .before .before .before .before .before .before .args .plan .now) (g .0) _ (g .1) _ _ _ (c .before .before .before .before .before .before .before .before .before .before .before .unsound-if .ensures (c .before .before .before .before .before .before .before .before .before .before .before .before .before .before .before .before .before .before .before .before .before .before .args .objectives .now)) (c .before .before .before .before .before .before .before .before .before .before .if2 .left) _ (c .before .before .before .before .before .before .before .before .kept-aside .ensures) _ _ (c .before .before .before .before .least .ensures) (c .before .if3 .taken)
 
--- src/ask.rt:51:1
 same-length-3 : tie.Need-same-length-3
 same-length-3 c = search needs
 
--- src/ask.rt:51:1
 returns-4 : tie.Need-returns-4
 returns-4 c =
     let l = (lent (c .before .before .before .before .before .before .before .before .before .before .before .before .before .before .before .before .before .before .before .before .before .args .entries .now) (c .before .before .before .before .before .before .before .before .before .before .before .before .before .before .before .before .before .before .before .before .before .args .slots .now) (c .before .before .before .before .before .before .before .before .before .before .before .before .before .before .before .before .before .before .before .before .before .args .text .now) (c .before .before .before .before .before .before .before .before .before .before .before .before .before .before .before .before .before .before .before .before .before .args .settings) (c .before .before .before .before .before .before .before .before .before .before .before .before .before .before .before .before .before .before .before .before .before .args .objectives .now)) in

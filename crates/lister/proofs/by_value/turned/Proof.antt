@@ -11,34 +11,27 @@ use Rattle.lister.proofs.ask.ask.Reads as ask-reads
 use Rattle.lister.proofs.by_value.closing.Reads as closing-reads
 use Rattle.lister.proofs.by_value.moved_on.Reads as moved-on-reads
 
--- src/by_value.rt:66:13
 closing-requires : tie.Need-closing-requires
 closing-requires c κs = search needs
 
--- src/by_value.rt:76:13
 moved-on-requires : tie.Need-moved-on-requires
 moved-on-requires c κs = search needs
 
--- src/by_value.rt:77:9
 returns : tie.Need-returns
 returns c =
     turned-closed (lent (now (c .before .before .before .before .before .before .before .before .args .entries)) (now (c .before .before .before .before .before .before .before .before .args .slots)) (now (c .before .before .before .before .before .before .before .before .args .text)) (c .before .before .before .before .before .before .before .before .args .settings) (now (c .before .before .before .before .before .before .before .before .args .objectives)))
     (c .before .before .before .before .before .before .before .before .args .listing) (now (c .before .before .before .before .before .before .before .before .args .plan))
     (c .before .before .if1 .taken) _ (c .before .closing .ensures) _ (c .moved-on .ensures)
 
--- src/by_value.rt:83:9
 ask-requires : tie.Need-ask-requires
 ask-requires c κs = search needs
 
--- src/by_value.rt:93:9
 moved-on-requires-2 : tie.Need-moved-on-requires-2
 moved-on-requires-2 c κs = search needs
 
--- src/by_value.rt:53:1
 same-length : tie.Need-same-length
 same-length c = search needs
 
--- src/by_value.rt:53:1
 returns-2 : tie.Need-returns-2
 returns-2 c =
     turned-by-stage (lent (now (c .before .before .before .before .before .before .before .before .before .before .before .args .entries)) (now (c .before .before .before .before .before .before .before .before .before .before .before .args .slots)) (now (c .before .before .before .before .before .before .before .before .before .before .before .args .text)) (c .before .before .before .before .before .before .before .before .before .before .before .args .settings) (now (c .before .before .before .before .before .before .before .before .before .before .before .args .objectives)))

@@ -21,29 +21,23 @@ use Rattle.lister.proofs.order.ahead_if.Reads as ahead-if-reads
 use Rattle.lister.proofs.table.table_of.Reads as table-of-reads
 use Rattle.plan.proofs.judging.judge.Reads as judge-reads
 
--- src/keep.rt:44:17
 table-of-requires : tie.Need-table-of-requires
 table-of-requires c κs = search needs
 
--- src/keep.rt:46:21
 array-share-prefix-table : tie.Need-array-share-prefix-table
 array-share-prefix-table c = search needs
 
--- src/keep.rt:46:9
 slice-aggregate-candidate : tie.Need-slice-aggregate-candidate
 slice-aggregate-candidate c =
     let long : length (c .before .table-of .result) ≡ 256 = good-length (eInt w8) 256 (c .before .table-of .result) _ (c .before .table-of .ok) in
     sym (length-take-le _ _ (omega (arith, c .before .before .before .before .before .before .before .pre .0 .plan-sized, c .before .before .before .before .before .before .before .pre .0 .slots)))
 
--- src/keep.rt:47:9
 judge-requires : tie.Need-judge-requires
 judge-requires c κs = search needs
 
--- src/keep.rt:48:24
 enum-known-judged : tie.Need-enum-known-judged
 enum-known-judged c = search needs
 
--- src/keep.rt:49:9
 returns : tie.Need-returns
 returns c =
     kept-unsound _ _ (tabled-slotted (c .before .before .before .before .before .before .before .before .before .args .entries .now) (c .before .before .before .before .before .before .before .before .before .args .slots .now) (c .before .before .before .before .before .before .before .before .before .args .settings) (c .before .before .before .before .before .before .before .before .before .args .objectives .now) (c .before .before .before .before .before .before .before .before .before .args .fits .now)) _ _ _ _ _ _ (c .before .before .before .before .before .before .before .before .before .pre .0) (c .before .before .before .before .before .before .before .before .before .pre .1) (c .before .before .before .table-of .result) (c .before .before .before .table-of .ensures)
@@ -51,43 +45,35 @@ returns c =
     (judged-unsound _ _ _ (c .before .judge .result) (c .before .judge .ensures) (λ w.
     ⊎-elim (λ z. no-sound (c .before .judge .result) 0 z w (omega arith)) (λ z. no-sound (c .before .judge .result) 1 z w (omega arith)) (c .match .keys2)))
 
--- src/keep.rt:51:9
 ahead-if-requires : tie.Need-ahead-if-requires
 ahead-if-requires c κs = search needs
 
--- src/keep.rt:52:9
 returns-2 : tie.Need-returns-2
 returns-2 c =
     let j = judged-sound _ _ _ (c .before .before .before .before .before .judge .result) (c .before .before .before .before .before .judge .ensures) _ (c .before .before .before .judged .given .1) in
     kept-unwanted _ _ (tabled-slotted (c .before .before .before .before .before .before .before .before .before .before .before .before .before .args .entries .now) (c .before .before .before .before .before .before .before .before .before .before .before .before .before .args .slots .now) (c .before .before .before .before .before .before .before .before .before .before .before .before .before .args .settings) (c .before .before .before .before .before .before .before .before .before .before .before .before .before .args .objectives .now) (c .before .before .before .before .before .before .before .before .before .before .before .before .before .args .fits .now)) _ _ _ _ _ _ (c .before .before .before .before .before .before .before .before .before .before .before .before .before .pre .0) (c .before .before .before .before .before .before .before .before .before .before .before .before .before .pre .1) (c .before .before .before .before .before .before .before .table-of .result) (c .before .before .before .before .before .before .before .table-of .ensures)
     (good-length (eInt w8) 256 (c .before .before .before .before .before .before .before .table-of .result) _ (c .before .before .before .before .before .before .before .table-of .ok)) _ (j .1) (said-no (c .before .ahead-if .ensures) (not-true _ (c .if1 .taken)))
 
--- src/keep.rt:54:9
 ahead-if-requires-2 : tie.Need-ahead-if-requires-2
 ahead-if-requires-2 c κs = search needs
 
--- src/keep.rt:55:9
 same-length : tie.Need-same-length
 same-length c = search needs
 
--- src/keep.rt:55:9
 returns-3 : tie.Need-returns-3
 returns-3 c =
     let j = judged-sound _ _ _ (c .before .before .before .before .before .before .before .before .judge .result) (c .before .before .before .before .before .before .before .before .judge .ensures) _ (c .before .before .before .before .before .before .judged .given .1) in
     kept-later _ _ (tabled-slotted (c .before .before .before .before .before .before .before .before .before .before .before .before .before .before .before .before .args .entries .now) (c .before .before .before .before .before .before .before .before .before .before .before .before .before .before .before .before .args .slots .now) (c .before .before .before .before .before .before .before .before .before .before .before .before .before .before .before .before .args .settings) (c .before .before .before .before .before .before .before .before .before .before .before .before .before .before .before .before .args .objectives .now) (c .before .before .before .before .before .before .before .before .before .before .before .before .before .before .before .before .args .fits .now)) _ _ _ _ _ _ (c .before .before .before .before .before .before .before .before .before .before .before .before .before .before .before .before .pre .0) (c .before .before .before .before .before .before .before .before .before .before .before .before .before .before .before .before .pre .1) (c .before .before .before .before .before .before .before .before .before .before .table-of .result) (c .before .before .before .before .before .before .before .before .before .before .table-of .ensures)
     (good-length (eInt w8) 256 (c .before .before .before .before .before .before .before .before .before .before .table-of .result) _ (c .before .before .before .before .before .before .before .before .before .before .table-of .ok)) _ (j .1) (said-no (c .before .ahead-if2 .ensures) (not-true _ (c .if2 .taken)))
 
--- src/keep.rt:57:5
 store-requires : tie.Need-store-requires
 store-requires c κs =
     let long : length (c .before .before .before .before .before .before .before .before .before .before .before .table-of .result) ≡ 256 = good-length (eInt w8) 256 (c .before .before .before .before .before .before .before .before .before .before .before .table-of .result) _ (c .before .before .before .before .before .before .before .before .before .before .before .table-of .ok) in
     length-take-le _ _ (omega (arith, c .before .before .before .before .before .before .before .before .before .before .before .before .before .before .before .before .before .pre .0 .plan-sized, c .before .before .before .before .before .before .before .before .before .before .before .before .before .before .before .before .before .pre .0 .slots))
 
--- src/keep.rt:27:1
 same-length-2 : tie.Need-same-length-2
 same-length-2 c = search needs
 
--- src/keep.rt:27:1
 returns-4 : tie.Need-returns-4
 returns-4 c =
     let j = judged-sound _ _ _ (c .before .before .before .before .before .before .before .before .before .before .before .before .judge .result) (c .before .before .before .before .before .before .before .before .before .before .before .before .judge .ensures) _ (c .before .before .before .before .before .before .before .before .before .before .judged .given .1) in

@@ -1,0 +1,2 @@
+-- Laws of how an answer crosses.
+pub mod Crossed

@@ -1,0 +1,2 @@
+-- What crosses to C and back.
+pub mod Crossing
