@@ -1,6 +1,5 @@
 -- A catalogue that is not refused gives a problem that computes: each slot's part is read as one constraint, and whether an entry fits is a test.
-use mathlib.Core.Path.{_≡_, refl}
-use mathlib.Core.Bool.{Bool, true, false, not, _&&_, _||_}
+use mathlib.Core.Bool.{Bool, not, _&&_, _||_}
 use mathlib.Core.List.{List}
 use Prim.Native.Nat.{ℕ, _≤_, _<_}
 use native.Mathlib.Omega.{arith}
@@ -8,7 +7,7 @@ use lib.Dec.{eqb}
 use Rattle.basis.specs.Tests.{Decides}
 use Rattle.basis.proofs.Decide.{decides-by, decides-and, decides-if, decides-not, decides-eq}
 use Rattle.constraint.specs.declared.Version.{Version}
-use Rattle.constraint.specs.Meaning.{Constraint, any, Satisfies}
+use Rattle.constraint.specs.Meaning.{Constraint, any}
 use Rattle.constraint.specs.Spelling.{ReadAs, Readable}
 use Rattle.constraint.proofs.Tests.{satisfied, satisfied-decides}
 use Rattle.constraint.proofs.Unique.{read-once}

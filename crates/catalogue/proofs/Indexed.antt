@@ -1,5 +1,4 @@
 -- A problem whose fits are given by sets that index the catalogue is the catalogue's problem: the same sound plans, costs and order.
-use mathlib.Core.Path.{_≡_}
 use mathlib.Core.List.{List}
 use mathlib.Core.Logic.{_↔_}
 use Prim.Native.Nat.{ℕ, _<_}

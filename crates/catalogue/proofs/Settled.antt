@@ -1,6 +1,5 @@
 -- Each refusal of a catalogue is given or not, whatever the tables, text, settings and buffer hold.
-use mathlib.Core.List.{List}
-use Prim.Native.Nat.{ℕ, suc, _%_, _^_, _≤_, _<_}
+use Prim.Native.Nat.{ℕ, suc, _%_, _^_}
 use native.Mathlib.Decide.{ℕ-discrete, decLe, decLt}
 use lib.ListN.{length, getD}
 use Rattle.basis.specs.Sum.{sum}

@@ -1,11 +1,9 @@
 -- The laws of written numbers: bytes write at most one number, and whether they write one is decided.
-use mathlib.Core.Path.{_≡_, refl, sym, _∙_}
-use mathlib.Core.List.{List, [], _∷_}
-use mathlib.Core.Logic.{_⊎_}
-use Prim.Native.Nat.{ℕ, _≤_, _<_}
+use mathlib.Core.Path.{_≡_, sym, _∙_}
+use mathlib.Core.List.{List}
+use Prim.Native.Nat.{ℕ}
 use native.Mathlib.Decide.{ℕ-discrete, decLe, decLt}
 use lib.ListN.{length, getD}
-use Rattle.basis.specs.Bytes.{All}
 use Rattle.basis.proofs.Decide.{both-or-not, either-or-not, not-or-not, or-not-by}
 use Rattle.basis.proofs.Lists.{all-or-not}
 use Rattle.constraint.specs.Numeral.{Digit, value, Numeral}

@@ -28,10 +28,6 @@ unkey-key v s =
     let patch : key v % 2 ^ 16 ≡ v .patch = omega arith in
     λ i. record { major = major i; minor = minor i; patch = patch i }
 
--- the key of a number's version
-pub key-unkey : (k : ℕ) → key (unkey k) ≡ k
-key-unkey k = omega arith
-
 -- of two versions whose minor and patch are below 2 ^ 16: the order of the keys is that of the versions
 module _ (v w : Version) (vm : v .minor < 2 ^ 16) (vp : v .patch < 2 ^ 16) (wm : w .minor < 2 ^ 16) (wp : w .patch < 2 ^ 16) where
   below-key : Below v w → key v < key w

@@ -1,7 +1,7 @@
 -- What lines say: the numbers of entries and slots, package numbers and marks, as the lent tables hold them.
 use mathlib.Core.Bool.{Bool, true, false, _&&_}
-use mathlib.Core.List.{List, [], _∷_, _++_, map}
-use Prim.Native.Nat.{ℕ, zero, suc, _+_, _-_}
+use mathlib.Core.List.{List, [], _∷_, map}
+use Prim.Native.Nat.{ℕ, suc, _+_, _-_}
 use lib.ListN.{length}
 use lib.Dec.{eqb}
 use Rattle.constraint.specs.Numeral.{value}

@@ -1,13 +1,12 @@
 -- Asking for the first plan and then for the next, over and over, hands out the listing, each plan once and in order, and then says 11: whatever the calls answer, as
 -- long as each answer fits its relation.
 use mathlib.Core.Path.{_≡_, refl, sym, ap, _∙_}
-use mathlib.Core.List.{List, [], _∷_, _++_}
+use mathlib.Core.List.{List, [], _∷_}
 use mathlib.Core.Logic.{inl, inr}
 use Prim.Native.Nat.{ℕ, suc}
 use lib.ListN.{length}
 use Rattle.basis.specs.Rows.{Row, row, Gives, GivesNone, refusal}
 use Rattle.basis.proofs.Rows.{gives-one, gives-not-none, gives-after, none-after}
-use Rattle.pacsolve.specs.declared.Cost.{Cost}
 use Rattle.pacsolve.specs.Plan.{Plan as A-plan, plan, Sound}
 use Rattle.pacsolve.specs.Cost.{cost}
 use Rattle.pacsolve.specs.Listing.{Listing, Asked, from-the-start, after, Least, NoneLeft}
@@ -19,9 +18,9 @@ use Rattle.catalogue.specs.Refusals.{rows}
 use Rattle.catalogue.specs.Gives.{problem}
 use Rattle.catalogue.proofs.Sane.{sane, right-room}
 use Rattle.lister.specs.declared.Answer.{Answer}
-use Rattle.lister.specs.declared.Answer.the-variants.{Refused, Plan}
+use Rattle.lister.specs.declared.Answer.the-variants.{Refused}
 use Rattle.lister.specs.Answers.{given, askRows, Lists, refused, found}
-use Rattle.lister.specs.Asking.{Asking, Hands, Closes, Follow, FollowedBy11}
+use Rattle.lister.specs.Asking.{Asking, Closes, Follow, FollowedBy11}
 use Rattle.lister.proofs.Outcome.{computed}
 
 module _ (L : Lent) where

@@ -1,8 +1,8 @@
 -- What a survey, a judgement of the given plan and the search for the least plan together say is what asking may answer.
 use mathlib.Core.Path.{_≡_, refl, sym, ap, _∙_}
 use mathlib.Core.Bool.{Bool, true, false, true≢false}
-use mathlib.Core.List.{List, [], _∷_, _++_}
-use mathlib.Core.Logic.{_⊎_, inl, inr}
+use mathlib.Core.List.{List}
+use mathlib.Core.Logic.{inl, inr}
 use Prim.Native.Nat.{ℕ, _≤_, _<_}
 use native.Mathlib.Omega.{arith}
 use lib.ListN.{length, getD}
@@ -10,10 +10,10 @@ use Rattle.bitset.specs.Bits.{Member}
 use Rattle.pacsolve.proofs.Fixed.{least-or-none-left}
 use Rattle.pacsolve.proofs.Refit.{refit-cost}
 use Rattle.basis.specs.Rows.{Gives, GivesNone, refusal}
-use Rattle.basis.proofs.Rows.{gives-before, gives-after, none-after, gives-among}
+use Rattle.basis.proofs.Rows.{gives-before, gives-after, gives-among}
 use Rattle.pacsolve.specs.Plan.{Plan as A-plan, plan, Sound}
 use Rattle.pacsolve.specs.Cost.{cost}
-use Rattle.pacsolve.specs.Listing.{Asked, from-the-start, after, Least, NoneLeft}
+use Rattle.pacsolve.specs.Listing.{Asked, from-the-start, after}
 use Rattle.catalogue.specs.Tables.{Lent, entryCount, slotCount}
 use Rattle.catalogue.specs.Refusals.{rows}
 use Rattle.catalogue.specs.Gives.{problem}
@@ -21,10 +21,9 @@ use Rattle.catalogue.specs.declared.Survey.{Survey}
 use Rattle.catalogue.specs.Survey.{Indexes, Surveys, refused as surveyed-refused, sane as surveyed-sane, indexed}
 use Rattle.catalogue.proofs.Sane.{Sane, sane, few-entries, right-room}
 use Rattle.catalogue.proofs.Indexed.{indexed-sound, indexed-least, indexed-none-left}
-use Rattle.lister.specs.declared.Answer.{Answer}
 use Rattle.lister.specs.declared.Answer.the-variants.{Refused, Plan}
 use Rattle.lister.specs.declared.Best.{Best}
-use Rattle.lister.specs.Answers.{given, askRows, Lists, refused, found}
+use Rattle.lister.specs.Answers.{given, Lists, refused, found}
 use Rattle.lister.specs.Search.{askedIf, Costed}
 use Rattle.lister.specs.Walks.{Posed, Found, none-left, the-least, UnsoundIf}
 use Rattle.lister.proofs.Asked.{Backed, ask-eleven, ask-none}

@@ -1,15 +1,13 @@
 -- How two lists compare, by what they have in common from the front and where they first differ.
-use mathlib.Core.Path.{_≡_, refl, sym}
-use mathlib.Core.Bool.{Bool, true, false}
+use mathlib.Core.Path.{_≡_}
 use mathlib.Core.List.{List, [], _∷_}
 use mathlib.Core.Logic.{_⊎_, inl, inr}
 use Prim.Native.Nat.{ℕ, zero, suc, _≤_, _<_}
 use native.Mathlib.Nat.{zero-lt-suc}
 use native.Mathlib.Omega.{arith}
 use lib.ListN.{length, getD}
-use Rattle.basis.specs.Tests.{Decides}
 use Rattle.pacsolve.specs.Order.{Earlier, lower, alike}
-use Rattle.pacsolve.proofs.Order.{earlier-cases, earlier-irrefl}
+use Rattle.pacsolve.proofs.Order.{earlier-cases}
 
 -- two lists are alike up to i
 abbrev pub Alike : List ℕ → List ℕ → ℕ → Type 0

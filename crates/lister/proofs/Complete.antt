@@ -2,7 +2,6 @@
 -- to look at that plan is to search the node.
 use mathlib.Core.Path.{_≡_, refl, sym, ap, _∙_}
 use mathlib.Core.List.{List}
-use mathlib.Core.Logic.{_⊎_, inl, inr}
 use Prim.Native.Nat.{ℕ, _*_, _/_, _<_, _≤_}
 use native.Mathlib.Nat.{add-zero}
 use lib.ListN.{length, getD, take}
@@ -12,10 +11,10 @@ use Rattle.bitset.proofs.Sets.{same-members, member-or-not}
 use Rattle.catalogue.specs.declared.Settings.{Settings}
 use Rattle.catalogue.specs.Survey.{tabled as tables}
 use Rattle.pacsolve.specs.Problem.{Problem}
-use Rattle.pacsolve.specs.Plan.{Plan, plan, none, chosen, MemberOf, Step, Walk, here, on}
+use Rattle.pacsolve.specs.Plan.{Plan, plan, none, chosen, Walk, here, on}
 use Rattle.pacsolve.specs.Listing.{Good, Asked, Wanted}
 use Rattle.pacsolve.proofs.Order.{precedes-irrefl}
-use Rattle.lister.specs.Search.{Limit, before, Below, Inside, Sought, same, better, Searched}
+use Rattle.lister.specs.Search.{Limit, before, Below, Inside, same, better, Searched}
 use Rattle.lister.specs.Steps.{Only, ownerIn, Due, Tabled}
 
 -- a problem whose slots are those of a slot table

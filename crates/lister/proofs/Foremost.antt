@@ -10,11 +10,11 @@ use Rattle.bitset.specs.Bits.{Member}
 use Rattle.bitset.specs.Changes.{With}
 use Rattle.bitset.proofs.Sets.{none-in-empty}
 use Rattle.pacsolve.specs.Problem.{Problem}
-use Rattle.pacsolve.specs.Plan.{Plan, plan, chosen, MemberOf}
-use Rattle.pacsolve.specs.Listing.{Good, Asked, Wanted, Least, NoneLeft}
+use Rattle.pacsolve.specs.Plan.{Plan, plan, chosen}
+use Rattle.pacsolve.specs.Listing.{Good, Asked, Least, NoneLeft}
 use Rattle.lister.specs.declared.Best.{Best}
 use Rattle.lister.specs.declared.Node.{Node}
-use Rattle.lister.specs.Search.{Limit, no-limit, before, Below, Inside, Sought, Tightened, same, better, Searched, limitOf, askedOf}
+use Rattle.lister.specs.Search.{Limit, no-limit, before, Inside, Tightened, same, better, Searched, limitOf, askedOf}
 use Rattle.lister.specs.Walks.{Ready, Walked, Posed, Found, none-left, the-least}
 
 module _ (p : Problem) (q : Asked) (must : ℕ) (choices : List ℕ) (only-root : (e : ℕ) → Member must e → e ≡ p .root)

@@ -1,6 +1,6 @@
 -- The walk's loop at a node: whatever is still sought at the node that the loop began with, below the limit as it now is, is inside the node as it now is. Each
 -- thing that a turn of the loop does keeps that, and where it comes to an end the node is searched.
-use mathlib.Core.Path.{_≡_, refl, sym, ap, _∙_}
+use mathlib.Core.Path.{_≡_, refl, sym, _∙_}
 use mathlib.Core.Bool.{true, false, true≢false}
 use mathlib.Core.List.{List}
 use mathlib.Core.Logic.{_⊎_, inl, inr}
@@ -11,10 +11,10 @@ use Rattle.bitset.specs.Bits.{Member}
 use Rattle.bitset.proofs.Made.{join-members}
 use Rattle.pacsolve.specs.Problem.{Problem}
 use Rattle.pacsolve.specs.Plan.{Plan, chosen, MemberOf}
-use Rattle.pacsolve.specs.Listing.{Good, Asked, Wanted}
+use Rattle.pacsolve.specs.Listing.{Good, Asked}
 use Rattle.lister.specs.declared.Best.{Best}
 use Rattle.lister.specs.declared.Node.{Node}
-use Rattle.lister.specs.Search.{Limit, Below, Inside, Sought, Spent, Tightened, same, Searched, limitOf, askedOf}
+use Rattle.lister.specs.Search.{Limit, Inside, Sought, Spent, Tightened, same, Searched, limitOf, askedOf}
 use Rattle.lister.specs.Steps.{Only, Due}
 use Rattle.lister.specs.Walks.{Narrowed}
 use Rattle.lister.proofs.Search.{below-tightened, tightened-trans, split}

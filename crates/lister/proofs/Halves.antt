@@ -1,5 +1,5 @@
 -- A set of choices parted into its lowest and the others.
-use mathlib.Core.Path.{_≡_, refl}
+use mathlib.Core.Path.{_≡_}
 use mathlib.Core.Logic.{_⊎_, inl, inr}
 use Prim.Native.Nat.{ℕ, _^_, _<_}
 use Rattle.bitset.specs.Bits.{Member}

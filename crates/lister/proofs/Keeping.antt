@@ -2,12 +2,11 @@
 use mathlib.Core.Path.{_≡_, refl, sym, ap, _∙_}
 use mathlib.Core.Bool.{Bool, true, false}
 use mathlib.Core.List.{List}
-use mathlib.Core.Logic.{_⊎_, inl, inr, _↔_}
+use mathlib.Core.Logic.{inl, inr, _↔_}
 use Prim.Native.Nat.{ℕ, _≤_}
 use native.Mathlib.Omega.{arith}
 use lib.ListN.{length, take}
 use lib.Seq.{length-take-le}
-use Rattle.bitset.specs.Bits.{Member}
 use Rattle.pacsolve.specs.declared.Cost.{Cost}
 use Rattle.pacsolve.specs.Problem.{Problem}
 use Rattle.basis.proofs.Rows.{gives-not-none}
@@ -20,7 +19,7 @@ use Rattle.pacsolve.specs.Cost.{cost}
 use Rattle.pacsolve.specs.Listing.{Good, Wanted}
 use Rattle.lister.specs.declared.Best.{Best}
 use Rattle.lister.specs.declared.Node.{Node}
-use Rattle.lister.specs.Search.{Below, limitIf, limitOf, askedIf, askedOf, Costed, Searched}
+use Rattle.lister.specs.Search.{Below, limitIf, limitOf, askedIf, askedOf, Searched}
 use Rattle.lister.specs.Steps.{AheadIf, Settles, Tabled}
 use Rattle.lister.specs.Walks.{Ready, Walked}
 use Rattle.lister.proofs.Complete.{Slotted, searched-kept, searched-none}

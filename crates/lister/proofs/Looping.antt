@@ -1,5 +1,5 @@
 -- What holds whenever the walk's loop comes round, and that each thing that a turn does keeps it or ends the walk.
-use mathlib.Core.Path.{_≡_, refl, sym, ap, _∙_}
+use mathlib.Core.Path.{_≡_, refl, _∙_}
 use mathlib.Core.Bool.{true, false}
 use mathlib.Core.List.{List}
 use mathlib.Core.Logic.{_⊎_, inl, inr}
@@ -15,8 +15,8 @@ use Rattle.pacsolve.specs.Problem.{Problem}
 use Rattle.pacsolve.specs.Plan.{Plan, chosen, MemberOf}
 use Rattle.lister.specs.declared.Best.{Best}
 use Rattle.lister.specs.declared.Node.{Node}
-use Rattle.lister.specs.Search.{Searched, Sought, limitOf, askedOf, Costed}
-use Rattle.lister.specs.Steps.{Only, Halved, Due, Fewer}
+use Rattle.lister.specs.Search.{Sought, limitOf, askedOf}
+use Rattle.lister.specs.Steps.{Only, Halved, Due}
 use Rattle.lister.specs.Walks.{Ready, Walked, Narrowed}
 use Rattle.lister.proofs.Complete.{Slotted}
 use Rattle.lister.proofs.Falls.{remaining, remaining-fewer, remaining-less, remaining-forced}

@@ -1,6 +1,6 @@
 -- First and next have exactly one outcome each: no two fit one input, and some outcome fits every input.
-use mathlib.Core.Path.{_≡_, refl, sym, ap, _∙_}
-use mathlib.Core.List.{List, [], _∷_, _++_}
+use mathlib.Core.Path.{_≡_, refl, ap}
+use mathlib.Core.List.{List}
 use mathlib.Core.Logic.{_⊎_, inl, inr}
 use Prim.Native.Nat.{ℕ}
 use lib.ListN.{length}
@@ -8,7 +8,7 @@ use Rattle.basis.specs.Rows.{Row, row, Gives, GivesNone, refusal}
 use Rattle.basis.proofs.Decide.{decided, not-or-not}
 use Rattle.basis.proofs.Rows.{Settled, gives-one, gives-not-none, gives-some, none-before, settled-append}
 use Rattle.pacsolve.specs.Problem.{Problem}
-use Rattle.pacsolve.specs.Plan.{Plan as A-plan, plan, Sound}
+use Rattle.pacsolve.specs.Plan.{Plan as A-plan, plan}
 use Rattle.pacsolve.specs.Listing.{Asked, from-the-start, after, Least, NoneLeft}
 use Rattle.pacsolve.proofs.Conditions.{Computes, sound-decides}
 use Rattle.pacsolve.proofs.Fixed.{least-is-one, least-or-none-left}

@@ -1,8 +1,8 @@
--- The laws of a search: how promises go together. None of them looks at how a step narrows or which slot is picked.
-use mathlib.Core.Path.{_≡_, refl, sym, ap, _∙_, subst}
+-- The laws of a limit as a search tightens it, and of a node split at one choice of a slot.
+use mathlib.Core.Path.{_≡_, _∙_, subst}
 use mathlib.Core.List.{List}
 use mathlib.Core.Logic.{_⊎_, inl, inr}
-use Prim.Native.Nat.{ℕ, _^_, _<_}
+use Prim.Native.Nat.{ℕ, _<_}
 use native.Mathlib.Decide.{ℕ-discrete}
 use lib.ListN.{length, getD, set}
 use lib.Seq.{getD-set-same, getD-set-other}
@@ -10,9 +10,9 @@ use Rattle.bitset.specs.Bits.{Member}
 use Rattle.pacsolve.specs.Problem.{Problem}
 use Rattle.pacsolve.specs.Plan.{Plan, chosen, MemberOf}
 use Rattle.pacsolve.specs.Order.{Precedes}
-use Rattle.pacsolve.specs.Listing.{Good, Asked, Wanted, Least, NoneLeft}
+use Rattle.pacsolve.specs.Listing.{Asked}
 use Rattle.pacsolve.proofs.Order.{precedes-trans}
-use Rattle.lister.specs.Search.{Limit, no-limit, before, Below, Inside, Sought, Spent, Tightened, same, better, Searched, Keeps}
+use Rattle.lister.specs.Search.{Limit, no-limit, before, Below, Inside, Tightened, same, better}
 
 module _ (p : Problem) (q : Asked) where
   below-earlier : (lim : Limit) (P Q : Plan) → Precedes p P Q → Below p lim Q → Below p lim P
@@ -28,36 +28,6 @@ module _ (p : Problem) (q : Asked) where
   tightened-trans (same e) (same f) = same (f ∙ e)
   tightened-trans (better g w h e) (same f) = better g w h (f ∙ e)
   tightened-trans {lim} {one} {two} t (better {P = R} g w h e) = better g w (below-tightened lim one R t h) e
-
-  -- a plan sought below a tightened limit was sought before
-  sought-before : {lim lim′ : Limit} {must ban : ℕ} {choices : List ℕ} {P : Plan} → Tightened p q lim lim′ → Sought p q lim′ must ban choices P → Sought p q lim must ban choices P
-  sought-before {lim} {lim′} {P = P} t s = record { good = s .good; wanted = s .wanted; below = below-tightened lim lim′ P t (s .below); inside = s .inside }
-
-  -- a dead node
-  pub searched-dead : {lim : Limit} {must ban : ℕ} {choices : List ℕ} → Spent p q lim must ban choices → Searched p q lim must ban choices lim
-  searched-dead n = record { tightened = same refl; spent = n }
-
-  -- a narrowed node
-  pub searched-narrowed : {lim lim′ : Limit} {must ban must′ ban′ : ℕ} {choices choices′ : List ℕ}
-      → Keeps p q lim must ban choices must′ ban′ choices′ → Searched p q lim must′ ban′ choices′ lim′ → Searched p q lim must ban choices lim′
-  searched-narrowed k s =
-      record {
-        tightened = s .tightened;
-        spent = λ P x.
-            s .spent P (record { good = x .good; wanted = x .wanted; below = x .below; inside = k P (sought-before (s .tightened) x) });
-      }
-
-  -- one search after another, of two nodes that together hold all that is sought
-  pub searched-both : {lim one two : Limit} {must ban : ℕ} {choices left right : List ℕ}
-      → ((P : Plan) → Good p P → Inside p must ban choices P → Inside p must ban left P ⊎ Inside p must ban right P)
-      → Searched p q lim must ban left one → Searched p q one must ban right two → Searched p q lim must ban choices two
-  searched-both {lim} {one} {two} {must} {ban} {choices} {left} {right} either s t =
-      record { tightened = tightened-trans (s .tightened) (t .tightened); spent = λ P x. go P x (either P (x .good) (x .inside)) }
-    where
-      go : (P : Plan) → Sought p q two must ban choices P → Inside p must ban left P ⊎ Inside p must ban right P → ⊥
-      go P x (inl i) =
-          s .spent P (record { good = x .good; wanted = x .wanted; below = below-tightened one two P (t .tightened) (x .below); inside = i })
-      go P x (inr i) = t .spent P (record { good = x .good; wanted = x .wanted; below = x .below; inside = i })
 
   -- one choice of a slot, and the others
   pub split : (must ban : ℕ) (choices : List ℕ) (s e one rest : ℕ) → s < length choices

@@ -1,15 +1,14 @@
 -- What a survey or an asking, and the record moved on by its answer, say together is what a turn may answer.
 use mathlib.Core.Path.{_≡_, refl, sym, ap, _∙_, subst}
-use mathlib.Core.Bool.{Bool, true, false}
+use mathlib.Core.Bool.{Bool}
 use mathlib.Core.List.{List, [], _∷_, _++_}
 use mathlib.Core.Logic.{_⊎_, inl, inr}
-use Prim.Native.Nat.{ℕ, zero, suc, _≤_, _<_}
+use Prim.Native.Nat.{ℕ, suc, _≤_, _<_}
 use native.Mathlib.Decide.{ℕ-discrete}
 use native.Mathlib.Omega.{arith}
 use lib.Dec.{eqb}
 use lib.ListN.{length}
 use borrow.Author.Tests.{eq-eqb, ne-eqb}
-use Rattle.basis.specs.declared.Refusal.{Refusal}
 use Rattle.basis.specs.Rows.{Row, row, Gives, GivesNone, refusal}
 use Rattle.basis.proofs.Rows.{gives-before, gives-after, none-before, none-after}
 use Rattle.pacsolve.specs.Plan.{Plan as A-plan, plan, Sound}
@@ -19,13 +18,13 @@ use Rattle.catalogue.specs.declared.Survey.{Survey}
 use Rattle.catalogue.specs.Tables.{Lent}
 use Rattle.catalogue.specs.Refusals.{rows}
 use Rattle.catalogue.specs.Gives.{problem}
-use Rattle.catalogue.specs.Survey.{Surveys, refused as surveyed-refused, sane as surveyed-sane}
+use Rattle.catalogue.specs.Survey.{Surveys}
 use Rattle.lister.specs.declared.Answer.{Answer}
 use Rattle.lister.specs.declared.Answer.the-variants.{Refused, Plan}
 use Rattle.lister.specs.declared.ListingRecord.{ListingRecord}
 use Rattle.lister.specs.Answers.{given, askRows, Lists, refused as ask-refused, found as ask-found}
 use Rattle.lister.specs.Search.{askedIf}
-use Rattle.lister.specs.Turns.{fresh, running, ended, listing, Asks, the-first, the-next, turnRows, Kept, Turns, refused, found, MovesOn, refused-with, given-plan, Closing}
+use Rattle.lister.specs.Turns.{running, ended, listing, Asks, the-first, the-next, turnRows, Kept, Turns, refused, found, MovesOn, refused-with, given-plan, Closing}
 use Rattle.lister.proofs.Asks.{survey-gives, survey-none}
 use Rattle.lister.proofs.TurnOutcome.{asks-one, ended-asks-nothing}
 

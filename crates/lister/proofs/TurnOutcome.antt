@@ -1,18 +1,18 @@
 -- A turn has exactly one outcome: answer, record and buffer.
 use mathlib.Core.Path.{_≡_, refl, sym, ap, _∙_}
-use mathlib.Core.List.{List, [], _∷_, _++_}
+use mathlib.Core.List.{List}
 use mathlib.Core.Logic.{_⊎_, inl, inr}
-use Prim.Native.Nat.{ℕ, zero, suc, _<_}
+use Prim.Native.Nat.{ℕ, _<_}
 use native.Mathlib.Decide.{ℕ-discrete, decLt}
 use native.Mathlib.Omega.{arith}
 use lib.ListN.{length}
 use Rattle.basis.specs.Rows.{Row, row, Gives, GivesNone, refusal}
 use Rattle.basis.proofs.Decide.{decided, both-or-not, not-or-not}
 use Rattle.basis.proofs.Rows.{Settled, gives-one, gives-not-none, gives-some, none-before, settled-append}
-use Rattle.pacsolve.specs.Plan.{Plan as A-plan, plan, Sound}
-use Rattle.pacsolve.specs.Listing.{Asked, from-the-start, after, Least, NoneLeft}
+use Rattle.pacsolve.specs.Plan.{plan}
+use Rattle.pacsolve.specs.Listing.{Asked, from-the-start, after, NoneLeft}
 use Rattle.pacsolve.proofs.Conditions.{Computes, sound-decides}
-use Rattle.pacsolve.proofs.Fixed.{least-is-one, least-or-none-left}
+use Rattle.pacsolve.proofs.Fixed.{least-is-one}
 use Rattle.catalogue.specs.Tables.{Lent}
 use Rattle.catalogue.specs.Refusals.{rows}
 use Rattle.catalogue.specs.Gives.{problem}

@@ -1,8 +1,8 @@
 -- A fresh record turned over and over hands out the listing, each plan once and in order, and then says 11 each time.
-use mathlib.Core.Path.{_≡_, refl, sym, ap, _∙_}
-use mathlib.Core.List.{List, [], _∷_, _++_}
+use mathlib.Core.Path.{_≡_, refl, ap}
+use mathlib.Core.List.{List, [], _∷_}
 use mathlib.Core.Logic.{_⊎_, inl, inr}
-use Prim.Native.Nat.{ℕ, zero, suc, _≤_, _<_}
+use Prim.Native.Nat.{ℕ, suc, _≤_, _<_}
 use native.Mathlib.Decide.{ℕ-discrete, le-ind}
 use native.Mathlib.Omega.{arith}
 use lib.ListN.{length}
@@ -20,8 +20,8 @@ use Rattle.lister.specs.declared.Answer.{Answer}
 use Rattle.lister.specs.declared.Answer.the-variants.{Refused}
 use Rattle.lister.specs.declared.ListingRecord.{ListingRecord}
 use Rattle.lister.specs.Answers.{given}
-use Rattle.lister.specs.Turns.{fresh, running, ended, listing, Asks, the-first, the-next, turnRows, Kept, closed, left, Turns, refused, found}
-use Rattle.lister.specs.Asking.{Turning, Hands, Closes, Follow, EndedFrom, FollowedBy11s}
+use Rattle.lister.specs.Turns.{running, ended, listing, Asks, the-first, the-next, turnRows, Kept, closed, left, Turns, refused, found}
+use Rattle.lister.specs.Asking.{Turning, Closes, Follow, EndedFrom, FollowedBy11s}
 use Rattle.lister.proofs.Outcome.{computed}
 use Rattle.lister.proofs.Asked.{Backed, still-sane, given-back}
 use Rattle.lister.proofs.TurnOutcome.{asks-one, ended-asks-nothing}

@@ -6,7 +6,7 @@ use borrow.Author.Tests.{eqb-true, eqb-false, not-true, not-false}
 use lib.Dec.{eqb}
 use Rattle.basis.proofs.Rows.{gives-not-none}
 use Rattle.pacsolve.specs.Problem.{Problem}
-use Rattle.pacsolve.specs.Plan.{Plan, Sound, faults}
+use Rattle.pacsolve.specs.Plan.{Plan, faults}
 use Rattle.pacsolve.proofs.Conditions.{sound-faultless}
 use Rattle.plan.specs.Judged.{FirstFault}
 use Rattle.lister.specs.Walks.{UnsoundIf}

@@ -47,10 +47,6 @@ pub record Searched (p : Problem) (q : Asked) (lim : Limit) (must ban : ℕ) (ch
   pub tightened : Tightened p q lim lim′
   pub spent : Spent p q lim′ must ban choices
 
--- THE PROMISE of narrowing: no plan that is sought is lost
-abbrev pub Keeps : Problem → Asked → Limit → ℕ → ℕ → List ℕ → ℕ → ℕ → List ℕ → Type 0
-Keeps p q lim must ban choices must′ ban′ choices′ = (P : Plan) → Sought p q lim must ban choices P → Inside p must′ ban′ choices′ P
-
 -- the limit that a best plan and its table are
 abbrev pub limitIf : Bool → Plan → Limit
 limitIf true P = before P

@@ -55,9 +55,9 @@ pub data Picked (slots : List ℕ) (must : ℕ) (choices : List ℕ) (a : Pick) 
   undecided : {s d e : ℕ} → Due slots must s → Member (getD choices s 0) d → Member (getD choices s 0) e → ¬ (d ≡ e) → a ≡ Split s → Picked slots must choices a
   forced : {s e : ℕ} → Due slots must s → Only (getD choices s 0) e → ¬ Member must e → a ≡ Force s → Picked slots must choices a
   dead : {s : ℕ} → Due slots must s → getD choices s 0 ≡ 0 → a ≡ Dead → Picked slots must choices a
-  complete : ((s : ℕ) → Due slots must s → (e : ℕ) × Only (getD choices s 0) e × Member must e) → a ≡ Complete → Picked slots must choices a
+  complete : Settles slots must choices → a ≡ Complete → Picked slots must choices a
 
--- the table of a node: the lowest choice of each slot whose owner must be there, and 255 for every other
+-- the table of a node: the only choice of each slot whose owner must be there, and 255 for every slot whose owner need not be
 pub record Tabled (slots : List ℕ) (must : ℕ) (choices table : List ℕ) : Type 0 where
   pub due : (s e : ℕ) → Due slots must s → Only (getD choices s 0) e → getD table s none ≡ e
   pub other : (s : ℕ) → s < length slots / 4 → ¬ Member must (ownerIn slots s) → getD table s none ≡ none

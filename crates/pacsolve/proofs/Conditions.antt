@@ -1,17 +1,15 @@
 -- The six conditions as tests that compute, where what the problem asks of entries and slots computes: so each condition holds or not.
-use mathlib.Core.Path.{_≡_, refl}
-use mathlib.Core.Bool.{Bool, true, false, not, _&&_, _||_}
-use mathlib.Core.List.{List, [], _∷_}
+use mathlib.Core.Bool.{Bool, not, _&&_, _||_}
 use Prim.Native.Nat.{ℕ, _^_, _≤_, _<_}
 use lib.Dec.{eqb, ltb}
 use Rattle.basis.specs.Tests.{Decides}
-use Rattle.basis.specs.Rows.{Row, GivesNone}
+use Rattle.basis.specs.Rows.{GivesNone}
 use Rattle.basis.proofs.Decide.{decided, decides-by, decides-then, decides-not, decides-if, decides-eq, decides-lt, decides-every, every, not-or-not}
 use Rattle.basis.proofs.Rows.{Settled}
 use Rattle.bitset.proofs.Sets.{member-below, below-by-members}
 use Rattle.pacsolve.specs.Problem.{Problem}
-use Rattle.pacsolve.specs.Plan.{Plan, none, chosen, MemberOf, Step, Walk, Rooted, Reached, Named, Fitting, Consistent, Acyclic, Sound, faults}
-use Rattle.pacsolve.proofs.Walks.{member?, member-decides, hop?, Trail, trail-decides, walk-decides}
+use Rattle.pacsolve.specs.Plan.{Plan, none, chosen, Rooted, Reached, Named, Fitting, Consistent, Acyclic, Sound, faults}
+use Rattle.pacsolve.proofs.Walks.{member?, member-decides, hop?, trail-decides, walk-decides}
 
 -- a problem that computes: tests of what it asks, and few enough entries that 255 is none of them
 pub record Computes (p : Problem) : Type 0 where

@@ -1,13 +1,12 @@
 -- Duplicates, however computed, are each package's members less one, summed. Three ways agree: over the packages by their first entries, which is the definition;
 -- over all package numbers below a bound; and over the members, counting those with an earlier member of their package.
 use mathlib.Core.Path.{_≡_, refl, sym, ap, _∙_}
-use mathlib.Core.Bool.{Bool, true, false, not}
 use mathlib.Core.Logic.{_⊎_, inl, inr}
-use Prim.Native.Nat.{ℕ, zero, suc, _+_, _-_, _*_, _≤_, _<_}
+use Prim.Native.Nat.{ℕ, zero, suc, _+_, _-_, _*_, _<_}
 use native.Mathlib.Decide.{ℕ-discrete}
 use native.Mathlib.Nat.{zero-mul, mul-zero, one-mul, add-zero}
 use native.Mathlib.Omega.{arith}
-use lib.Dec.{T, eqb, eqb-refl}
+use lib.Dec.{eqb}
 use borrow.Author.Tests.{eq-eqb, ne-eqb}
 use Rattle.basis.specs.Sum.{sum, same, one-if}
 use Rattle.basis.proofs.Sums.{sum-same, sum-changed, term-le, sum-zero}

@@ -1,23 +1,22 @@
 -- The sound plans are finitely many, and a definition that computes lists them: every table whose slots hold a fitting entry or 255, with the set that the table
 -- fixes, kept where the six conditions hold, in order. So a listing exists, and so does a least plan, or there is none.
-use mathlib.Core.Path.{_≡_, refl, sym, ap, _∙_}
-use mathlib.Core.Bool.{Bool, true, false, _||_}
+use mathlib.Core.Path.{_≡_, refl, ap, _∙_}
+use mathlib.Core.Bool.{Bool, _||_}
 use mathlib.Core.List.{List, [], _∷_, _++_, map}
 use mathlib.Core.Logic.{_⊎_, inl, inr, ⊎-elim}
 use Prim.Native.Nat.{ℕ, zero, suc, _+_, _≤_, _<_}
-use native.Mathlib.Nat.{add-suc, add-zero, not-suc-le-zero, zero-lt-suc, zero-add}
+use native.Mathlib.Nat.{add-zero, not-suc-le-zero, zero-lt-suc, zero-add}
 use native.Mathlib.Omega.{arith}
 use lib.ListN.{length, getD}
 use lib.Dec.{T, eqb}
 use Rattle.basis.specs.Lists.{In}
 use Rattle.basis.specs.Tests.{Decides}
 use Rattle.basis.proofs.Decide.{decided, decides-or, decides-eq, decides-some, some-of, below-suc}
-use Rattle.basis.proofs.Lists.{all-in, in-left, in-right, in-append, in-map, map-in, passing, passing-in, in-passing}
+use Rattle.basis.proofs.Lists.{in-left, in-right, in-append, in-map, map-in, passing, passing-in, in-passing}
 use Rattle.bitset.specs.Bits.{Member}
 use Rattle.bitset.proofs.Sets.{same-members, member-or-not, gather, gathered, gathers}
 use Rattle.pacsolve.specs.Problem.{Problem}
-use Rattle.pacsolve.specs.Plan.{Plan, plan, none, chosen, MemberOf, Step, Walk, here, on, Sound}
-use Rattle.pacsolve.specs.Order.{Precedes}
+use Rattle.pacsolve.specs.Plan.{Plan, plan, none, chosen, MemberOf, Walk, here, on, Sound}
 use Rattle.pacsolve.specs.Listing.{Good, Rising, Listing, Asked, from-the-start, after, Wanted, Least, NoneLeft}
 use Rattle.pacsolve.proofs.Conditions.{Computes, sound?, sound-decides}
 use Rattle.pacsolve.proofs.Listing.{head-least, in-tail}

@@ -1,15 +1,15 @@
 -- A sound plan's table fixes its set, and so a least plan is the only one.
-use mathlib.Core.Path.{_≡_, refl, sym, ap, _∙_}
+use mathlib.Core.Path.{_≡_, sym, ap, _∙_}
 use mathlib.Core.List.{List}
 use mathlib.Core.Logic.{_⊎_, inl, inr}
 use Prim.Native.Nat.{ℕ}
-use lib.ListN.{length, getD}
+use lib.ListN.{getD}
 use Rattle.bitset.specs.Bits.{Member}
 use Rattle.bitset.proofs.Sets.{same-members}
 use Rattle.pacsolve.specs.Problem.{Problem}
-use Rattle.pacsolve.specs.Plan.{Plan, plan, none, chosen, MemberOf, Step, Walk, here, on, Sound}
+use Rattle.pacsolve.specs.Plan.{Plan, plan, none, chosen, MemberOf, Walk, here, on, Sound}
 use Rattle.pacsolve.specs.Order.{Precedes}
-use Rattle.pacsolve.specs.Listing.{Good, Asked, from-the-start, after, Wanted, Least, NoneLeft}
+use Rattle.pacsolve.specs.Listing.{Good, Asked, Least, NoneLeft}
 use Rattle.pacsolve.proofs.Order.{precedes-total}
 
 module _ (p : Problem) where

@@ -1,10 +1,8 @@
 -- The laws of a listing. There is at most one. Its head is the least plan, and what follows is a list of the same kind for the plans after the head: so asking for
 -- the first plan and then for the next walks through it.
-use mathlib.Core.Path.{_≡_, refl, sym, ap, _∙_}
+use mathlib.Core.Path.{_≡_, refl, sym, _∙_}
 use mathlib.Core.List.{List, [], _∷_}
-use mathlib.Core.Logic.{_⊎_, inl, inr, ⊎-elim}
-use Prim.Native.Nat.{ℕ}
-use Rattle.basis.specs.Bytes.{All}
+use mathlib.Core.Logic.{inl, inr}
 use Rattle.basis.specs.Lists.{In}
 use Rattle.basis.proofs.Lists.{all-in}
 use Rattle.pacsolve.specs.Problem.{Problem}

@@ -5,7 +5,7 @@ use mathlib.Core.Logic.{_↔_}
 use Prim.Native.Nat.{ℕ, zero, suc, _<_}
 use lib.ListN.{getD}
 use Rattle.pacsolve.specs.Problem.{Problem}
-use Rattle.pacsolve.specs.Plan.{Plan, chosen, MemberOf, Step, Walk, here, on, Rooted, Reached, Named, Fitting, Consistent, Acyclic, Sound}
+use Rattle.pacsolve.specs.Plan.{Plan, chosen, Step, Walk, here, on, Rooted, Reached, Named, Fitting, Acyclic, Sound}
 use Rattle.pacsolve.specs.Cost.{weightOf, membersOf, earlier, duplicatesOf, amount, cost}
 use Rattle.pacsolve.specs.Order.{Precedes, cheaper, tied}
 use Rattle.pacsolve.specs.Listing.{Good, Asked, from-the-start, after, Wanted, Least, NoneLeft}

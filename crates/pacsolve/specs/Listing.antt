@@ -2,7 +2,6 @@
 -- theorem.
 use mathlib.Core.Path.{_≡_}
 use mathlib.Core.List.{List, [], _∷_}
-use Prim.Native.Nat.{ℕ}
 use lib.ListN.{length}
 use Rattle.basis.specs.Bytes.{All}
 use Rattle.basis.specs.Lists.{In}

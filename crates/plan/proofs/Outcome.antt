@@ -6,7 +6,7 @@ use Prim.Native.Nat.{ℕ}
 use lib.ListN.{length}
 use Rattle.basis.specs.Rows.{Gives, GivesNone, refusal}
 use Rattle.basis.proofs.Rows.{gives-one, gives-not-none, gives-some}
-use Rattle.pacsolve.specs.Plan.{Plan, plan, faults, Sound as Is-sound}
+use Rattle.pacsolve.specs.Plan.{Plan, plan, faults}
 use Rattle.pacsolve.specs.Cost.{cost}
 use Rattle.pacsolve.proofs.Conditions.{Computes, faults-settled, faultless-sound, sound-faultless}
 use Rattle.catalogue.specs.Tables.{Lent}

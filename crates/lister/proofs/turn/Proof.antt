@@ -23,7 +23,7 @@ use types.Run.{look, look-raw, init, store-raw, forget, stop, hop, fld, from, lo
 use types.Part.{agg, whole, sub, look-in}
 use types.SemTy.{Body}
 use sound.WpLaws.{FmC, fmOf, WpFn-mono}
-use denote.RattleType.{RattleType, Denots, Valss, owns, flat}
+use denote.RattleType.{RattleType, Valss, owns, flat}
 use denote.Laws.{Is, Ises, Are, shows}
 use denote.Memory.{mem}
 use denote.Builtin.{u8, u16}

@@ -1,7 +1,6 @@
 -- `lister::keep::keep` meets its contract.
-use mathlib.Core.Path.{_≡_, refl, sym, _∙_}
+use mathlib.Core.Path.{_≡_, sym}
 use mathlib.Core.Logic.{⊎-elim}
-use Prim.Native.Nat.{ℕ}
 use borrow.Author.Tests.{not-true, not-false}
 use native.Mathlib.Omega.{arith}
 use borrow.Author.Needs.{needs}
@@ -10,7 +9,7 @@ use mir.Syntax.{w8}
 use lib.ListN.{length}
 use lib.Seq.{length-take-le}
 use Rattle.lister.proofs.Complete.{tabled-slotted}
-use Rattle.lister.proofs.Keeping.{kept-unsound, kept-unwanted, kept-later, kept-new, judged-apart, judged-unsound, judged-sound, no-sound}
+use Rattle.lister.proofs.Keeping.{kept-unsound, kept-unwanted, kept-later, kept-new, judged-unsound, judged-sound, no-sound}
 use Rattle.lister.proofs.Told.{said-yes, said-no}
 use Rattle.lister.proofs.keep.keep.Statement.{statement}
 use Rattle.lister.proofs.keep.keep.Tie as tie

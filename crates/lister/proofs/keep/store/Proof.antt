@@ -1,8 +1,8 @@
 -- `lister::keep::store` meets its contract: what is before i is copied.
-use mathlib.Core.Path.{_≡_, sym, _∙_}
-use Prim.Native.Nat.{ℕ, _-_}
+use mathlib.Core.Path.{sym, _∙_}
+use Prim.Native.Nat.{_-_}
 use native.Mathlib.Omega.{arith}
-use lib.ListN.{length, length-set}
+use lib.ListN.{length}
 use Rattle.lister.proofs.Copying.{Copied, copied-none, copied-more, copied-all}
 use Rattle.lister.proofs.keep.store.Statement.{statement}
 use Rattle.lister.proofs.keep.store.Tie as tie

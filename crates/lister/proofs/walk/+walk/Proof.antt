@@ -20,8 +20,8 @@ use Rattle.lister.proofs.Falls.{remaining-fewer}
 use lib.ListN.{length-set}
 use Rattle.lister.proofs.Complete.{tabled-slotted}
 use borrow.Author.Tests.{not-true}
-use mathlib.Core.Path.{_≡_, refl, sym, _∙_}
-use mathlib.Core.Bool.{true, false}
+use mathlib.Core.Path.{sym, _∙_}
+use mathlib.Core.Bool.{true}
 use lib.Seq.{set-set}
 use Rattle.lister.proofs.walk.+walk.{statement}
 use Rattle.lister.proofs.walk.+walk.Tie.{close}
