@@ -2,8 +2,8 @@
 //! whatever they are.
 
 use cases::{
-    FAULTS, Fault, Lent, NUMBERS, Random, TEXT_CLAUSES, one_text_fault, two_text_faults,
-    with_faults,
+    ChangedText, FAULTS, Fault, Lent, NUMBERS, Random, TEXT_CLAUSES, one_text_fault,
+    two_text_faults, with_faults,
 };
 use second::{CheckAnswer, PlanAnswer, check, first, next, read, turn};
 
@@ -121,32 +121,29 @@ fn of_any_numbers_at_once_the_lowest() {
     }
 }
 
+/// Asserts that read gives the number of the text that `change` makes from a seed.
+fn assert_read(seed: u64, change: impl Fn(&mut Random, u64) -> ChangedText) {
+    let random = &mut Random::new(seed);
+    let changed = change(random, seed);
+    let mut lent = changed.draft.lent(random);
+    let answer = read(&lent.text, &mut lent.entries, &mut lent.slots);
+    assert_eq!(
+        answer.refusal, changed.number,
+        "seed {seed}: {}",
+        changed.clause
+    );
+}
+
 #[test]
 fn each_change_to_a_text_gives_its_number() {
     for seed in 0..10 * TEXT_CLAUSES as u64 {
-        let random = &mut Random::new(seed);
-        let changed = one_text_fault(random, seed);
-        let mut lent = changed.draft.lent(random);
-        let answer = read(&lent.text, &mut lent.entries, &mut lent.slots);
-        assert_eq!(
-            answer.refusal, changed.number,
-            "seed {seed}: {}",
-            changed.clause
-        );
+        assert_read(seed, one_text_fault);
     }
 }
 
 #[test]
 fn of_two_changes_to_a_text_the_one_tested_first() {
     for seed in 0..400 {
-        let random = &mut Random::new(seed);
-        let changed = two_text_faults(random, seed);
-        let mut lent = changed.draft.lent(random);
-        let answer = read(&lent.text, &mut lent.entries, &mut lent.slots);
-        assert_eq!(
-            answer.refusal, changed.number,
-            "seed {seed}: {}",
-            changed.clause
-        );
+        assert_read(seed, two_text_faults);
     }
 }
