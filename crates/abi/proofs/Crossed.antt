@@ -1,4 +1,4 @@
--- What is written into slices of one and of three numbers, and how an answer's parts are read off it.
+-- What is written into slices of one, two and three numbers, and how an answer's parts are read off it.
 use mathlib.Core.Path.{_≡_, refl, sym, ap, _∙_}
 use mathlib.Core.List.{List, [], _∷_}
 use Prim.Native.Nat.{ℕ}
@@ -7,6 +7,8 @@ use lib.ListN.{length, set, getD}
 use Rattle.pacsolve.specs.declared.Cost.{Cost}
 use Rattle.constraint.specs.declared.Reading.{Reading}
 use Rattle.constraint.specs.Reading.{fitOf, numberOf as reading-number}
+use Rattle.csv.specs.declared.Sheet.{Sheet}
+use Rattle.csv.specs.Reading.{entriesOf, slotsOf, numberOf as sheet-number}
 use Rattle.abi.specs.Crossing.{three}
 
 pub one-written : (xs : List ℕ) (a : ℕ) → length xs ≡ 1 → set xs 0 a ≡ a ∷ []
@@ -18,6 +20,12 @@ pub one-read : (xs : List ℕ) (d : ℕ) → length xs ≡ 1 → xs ≡ getD xs 
 one-read [] d h = absurd (omega (arith, h))
 one-read (x ∷ []) d h = refl
 one-read (x ∷ y ∷ xs) d h = absurd (omega (arith, h))
+
+pub two-written : (xs : List ℕ) (a b : ℕ) → length xs ≡ 2 → set (set xs 0 a) 1 b ≡ a ∷ b ∷ []
+two-written [] a b h = absurd (omega (arith, h))
+two-written (x ∷ []) a b h = absurd (omega (arith, h))
+two-written (x ∷ y ∷ []) a b h = refl
+two-written (x ∷ y ∷ z ∷ xs) a b h = absurd (omega (arith, h))
 
 pub three-written : (xs : List ℕ) (a b c : ℕ) → length xs ≡ 3 → set (set (set xs 0 a) 1 b) 2 c ≡ a ∷ b ∷ c ∷ []
 three-written [] a b c h = absurd (omega (arith, h))
@@ -34,3 +42,8 @@ module _ {A : Type 0} (number one : A → ℕ) (cost : A → Cost) where
 
 pub fit-handed : (a b : Reading) (xs : List ℕ) → length xs ≡ 1 → a ≡ b → (reading-number b ≡ reading-number a) × (set xs 0 (fitOf b) ≡ fitOf a ∷ [])
 fit-handed a b xs h e = (sym (ap reading-number e), one-written xs (fitOf b) h ∙ ap (λ (x : Reading). fitOf x ∷ []) (sym e))
+
+pub counts-handed : (a b : Sheet) (xs : List ℕ) → length xs ≡ 2 → a ≡ b
+    → (sheet-number b ≡ sheet-number a) × (set (set xs 0 (entriesOf b)) 1 (slotsOf b) ≡ entriesOf a ∷ slotsOf a ∷ [])
+counts-handed a b xs h e =
+    (sym (ap sheet-number e), two-written xs (entriesOf b) (slotsOf b) h ∙ ap (λ (x : Sheet). entriesOf x ∷ slotsOf x ∷ []) (sym e))

@@ -15,6 +15,8 @@ use Rattle.lister.specs.declared.Answer.{Answer}
 use Rattle.lister.specs.declared.ListingRecord.{ListingRecord}
 use Rattle.lister.specs.Answers.{numberOf, setOf, costOf}
 use Rattle.lister.specs.Turns.{Turns}
+use Rattle.csv.specs.declared.Sheet.{Sheet}
+use Rattle.csv.specs.Reading.{Reads, entriesOf, slotsOf, numberOf as sheet-number}
 
 -- a cost as it crosses
 abbrev pub three : Cost → List ℕ
@@ -51,3 +53,9 @@ pub data TurnsC (L : Lent) (stage last buffer set cost : List ℕ) (n : ℕ) (st
   answered : {a : Answer} {r r′ : ListingRecord} → stage ≡ r .stage ∷ [] → last ≡ r .last ∷ [] → length set ≡ 1 → length cost ≡ 3
       → Turns L r buffer a r′ buffer′ → n ≡ numberOf a → stage′ ≡ r′ .stage ∷ [] → last′ ≡ r′ .last ∷ [] → set′ ≡ setOf a ∷ [] → cost′ ≡ three (costOf a)
       → TurnsC L stage last buffer set cost n stage′ last′ buffer′ set′ cost′
+
+-- read: the slice of the counts has two numbers, that of the entries first. The sizes of the tables are the call's own to refuse
+pub data ReadsC (text entries slots counts : List ℕ) (n : ℕ) (entries′ slots′ counts′ : List ℕ) : Type 0 where
+  short : ¬ (length counts ≡ 2) → n ≡ 7 → entries′ ≡ entries → slots′ ≡ slots → counts′ ≡ counts → ReadsC text entries slots counts n entries′ slots′ counts′
+  answered : {a : Sheet} → length counts ≡ 2 → Reads text entries slots a entries′ slots′ → n ≡ sheet-number a → counts′ ≡ entriesOf a ∷ slotsOf a ∷ []
+      → ReadsC text entries slots counts n entries′ slots′ counts′

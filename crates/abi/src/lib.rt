@@ -2,6 +2,7 @@
 use catalogue::Settings;
 use constraint::Reading;
 use constraint::Version;
+use csv::Sheet;
 use lister::Answer;
 use lister::ListingRecord;
 use lister::by_value::turned;
@@ -11,10 +12,11 @@ ghost use lib.ListN.{length};
 ghost use mathlib.Core.List.{[], _∷_};
 ghost use mathlib.Core.Path.{_≡_};
 ghost use Rattle.catalogue.specs.Tables.{lent};
-ghost use Rattle.abi.specs.Crossing.{three, settingsOf, versionOf, FitsC, ChecksC, ListsC, TurnsC};
+ghost use Rattle.abi.specs.Crossing.{three, settingsOf, versionOf, FitsC, ChecksC, ListsC, TurnsC, ReadsC};
 ghost use Rattle.constraint.specs.Reading.{fitOf, numberOf as reading-number};
 ghost use Rattle.plan.specs.Check.{conditionOf, numberOf as checked-number, costOf as checked-cost};
 ghost use Rattle.lister.specs.Answers.{Firsts, Nexts, numberOf, setOf, costOf};
+ghost use Rattle.csv.specs.Reading.{entriesOf, slotsOf, numberOf as sheet-number};
 
 // A cost put into its slice.
 fn put_cost(its: Cost, cost: &mut [u32])
@@ -255,4 +257,40 @@ pub extern "C" fn boxplan_turn(
     hand_back(next, stage, last);
     let answer = t.answer;
     hand_out(answer, set, cost)
+}
+
+// A sheet's counts put into their slice.
+fn hand_counts(sheet: Sheet, counts: &mut [u16]) -> u8
+    requires { ⌜ length (now counts) ≡ 2 ⌝ }
+    ensures { λ r. ⌜ (r ≡ sheet-number sheet) × (now (counts .exit) ≡ entriesOf sheet ∷ slotsOf sheet ∷ []) ⌝ }
+{
+    match sheet {
+        Sheet::Holds { entries, slots } => {
+            counts[0] = entries;
+            counts[1] = slots;
+            0
+        }
+        Sheet::Refused(refusal) => {
+            counts[0] = 0;
+            counts[1] = 0;
+            refusal.number
+        }
+    }
+}
+
+// A catalogue's tables from text.
+#[no_mangle]
+pub extern "C" fn boxplan_read(
+    text: &[u8],
+    entries: &mut [u16],
+    slots: &mut [u16],
+    counts: &mut [u16],
+) -> u8
+    ensures { λ r. ⌜ ReadsC (now (text .entry)) (now (entries .entry)) (now (slots .entry)) (now (counts .entry)) r (now (entries .exit)) (now (slots .exit)) (now (counts .exit)) ⌝ }
+{
+    if counts.len() != 2 {
+        return 7;
+    }
+    let sheet = csv::read(text, entries, slots);
+    hand_counts(sheet, counts)
 }
