@@ -25,22 +25,49 @@ pub const OBJECTIVES: [&[u8]; 15] = [
     &[2, 1, 0],
 ];
 
-/// How many tables a sane catalogue has at most, so that trying them all stays quick.
-const TABLES: u64 = 10_000;
+/// How much a catalogue has at most.
+struct Size {
+    entries: usize,
+    slots: usize,
+    /// Tables to try.
+    tables: u64,
+}
+
+/// Small enough that trying all tables stays quick.
+const SMALL: Size = Size {
+    entries: 7,
+    slots: 8,
+    tables: 10_000,
+};
+
+/// Small enough to go through a great many.
+const TINY: Size = Size {
+    entries: 5,
+    slots: 5,
+    tables: 100,
+};
 
 /// A small sane catalogue with any settings, holding a plan of its listing if there is one.
 pub fn sane(random: &mut Random) -> Lent {
-    drawn(random, |random, lent| {
-        lent.root = random.below(lent.entry_count()) as u16;
-        lent.mode = random.below(3) as u8;
-        lent.cycles = random.below(2) as u8;
-        lent.objectives = random.pick(&OBJECTIVES).to_vec();
-    })
+    drawn(random, &SMALL, any_settings)
+}
+
+/// A tiny one.
+pub fn tiny(random: &mut Random) -> Lent {
+    drawn(random, &TINY, any_settings)
+}
+
+/// Any root, mode, cycles and objectives.
+pub fn any_settings(random: &mut Random, lent: &mut Lent) {
+    lent.root = random.below(lent.entry_count()) as u16;
+    lent.mode = random.below(3) as u8;
+    lent.cycles = random.below(2) as u8;
+    lent.objectives = random.pick(&OBJECTIVES).to_vec();
 }
 
 /// A small sane catalogue with the settings of `boxplan`.
 pub fn sane_for_boxplan(random: &mut Random) -> Lent {
-    drawn(random, |_, lent| {
+    drawn(random, &SMALL, |_, lent| {
         (lent.root, lent.mode, lent.cycles) = (0, 1, 0);
         lent.objectives = vec![0, 1, 2];
     })
@@ -59,14 +86,14 @@ pub fn rich(random: &mut Random) -> Lent {
 }
 
 /// Draws until the catalogue has as many plans as were asked for, mostly two or more.
-fn drawn(random: &mut Random, settings: fn(&mut Random, &mut Lent)) -> Lent {
+fn drawn(random: &mut Random, size: &Size, settings: fn(&mut Random, &mut Lent)) -> Lent {
     let least = random.pick(&[0, 1, 2, 2]);
     loop {
         let mut lent = Lent::default();
-        push_entries(random, &mut lent);
+        push_entries(random, &mut lent, size.entries);
         settings(random, &mut lent);
-        push_slots(random, &mut lent);
-        while combinations(&lent.catalogue()) > TABLES {
+        push_slots(random, &mut lent, size.slots);
+        while combinations(&lent.catalogue()) > size.tables {
             let slot = random.below(lent.slot_count());
             lent.slots.drain(4 * slot..4 * slot + 4);
         }
@@ -92,9 +119,9 @@ fn hold_listed(random: &mut Random, lent: &mut Lent) -> usize {
     plans.len()
 }
 
-/// Up to seven entries of a few packages, no two equal.
-fn push_entries(random: &mut Random, lent: &mut Lent) {
-    let entries = 1 + random.below(7);
+/// Some entries of a few packages, no two equal.
+fn push_entries(random: &mut Random, lent: &mut Lent, most: usize) {
+    let entries = 1 + random.below(most);
     let numbers: [u16; 4] = random.pick(&[[0, 1, 2, 3], [65535, 0, 64, 300], [5, 4, 3, 2]]);
     let packages = &numbers[..1 + random.below(4)];
     let versions = random.below(3);
@@ -126,9 +153,9 @@ fn version(random: &mut Random, shape: usize) -> Version {
     }
 }
 
-/// Up to eight slots; the root owns about half of them.
-fn push_slots(random: &mut Random, lent: &mut Lent) {
-    let slots = random.below(9);
+/// Some slots; the root owns about half of them.
+fn push_slots(random: &mut Random, lent: &mut Lent, most: usize) {
+    let slots = random.below(most + 1);
     let mut owner = || {
         let any = random.below(lent.entry_count());
         random.pick(&[usize::from(lent.root), any])

@@ -38,6 +38,7 @@ mod random;
 mod shrink;
 mod text_faults;
 mod texts;
+mod wide;
 
 pub use catalogues::{OBJECTIVES, sane};
 pub use faults::{FAULTS, Fault, NUMBERS, with_faults};
@@ -50,6 +51,7 @@ pub use text_faults::{
     two_faults as two_text_faults,
 };
 pub use texts::{Draft, names, written};
+pub use wide::{Width, wide};
 
 /// What a case is about.
 #[derive(Clone, Copy, Debug, PartialEq, Eq)]
@@ -60,6 +62,8 @@ pub enum Kind {
     BadConstraint,
     /// A small sane catalogue and settings, with a plan of its listing if it has one.
     Sane,
+    /// A tiny one, to go through a great many.
+    Tiny,
     /// A sane catalogue at the limits.
     Large,
     /// One clause of the table of refusals, each in turn.
@@ -84,10 +88,11 @@ pub enum Kind {
 
 impl Kind {
     /// Every kind.
-    pub const ALL: [Kind; 13] = [
+    pub const ALL: [Kind; 14] = [
         Kind::Constraint,
         Kind::BadConstraint,
         Kind::Sane,
+        Kind::Tiny,
         Kind::Large,
         Kind::Fault,
         Kind::TwoFaults,
@@ -124,6 +129,7 @@ pub fn case(kind: Kind, seed: u64) -> Case {
         Kind::Constraint => constraint(random),
         Kind::BadConstraint => bad_constraint(random, seed),
         Kind::Sane => Inputs::Plans(sane(random)),
+        Kind::Tiny => Inputs::Plans(catalogues::tiny(random)),
         Kind::Large => Inputs::Plans(large::large(random)),
         Kind::Fault => Inputs::Plans(faults::one_fault(random, seed)),
         Kind::TwoFaults => Inputs::Plans(faults::two_faults(random, seed)),

@@ -1,6 +1,6 @@
 //! What the calls leave in the plan buffer and in the record.
 
-use crate::bench::{Bench, given, refused};
+use super::bench::{Bench, given, refused};
 use second::Record;
 
 #[test]

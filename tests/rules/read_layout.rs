@@ -1,6 +1,7 @@
 //! The layout of the text, clause by clause: what is 12, and what just passes.
 
-use second::{ENTRY_NUMBERS, ReadAnswer, SLOT_NUMBERS, read};
+use crate::program::read;
+use second::{ENTRY_NUMBERS, ReadAnswer, SLOT_NUMBERS};
 
 const HEADER: &str = "package,version,weight,needs,constraint";
 

@@ -1,8 +1,7 @@
 //! A catalogue with settings, put together by hand for a test.
 
-use second::{
-    Catalogue, CheckAnswer, Cost, PlanAnswer, Record, Settings, check, first, next, turn,
-};
+use crate::program::{check, first, next, turn};
+use second::{Catalogue, CheckAnswer, Cost, PlanAnswer, Record, Settings};
 
 /// What a test hands to the calls.
 #[derive(Clone)]

@@ -1,7 +1,7 @@
 //! The table of refusals, clause by clause, and the limits that just pass. Read's own stand in
 //! `read_layout` and `read_tables`; 8 cannot be had.
 
-use crate::bench::{Bench, given, refused};
+use super::bench::{Bench, given, refused};
 use second::{CheckAnswer, Record};
 
 /// Asserts that check, first, next and turn at every stage give the refusal and write nothing.

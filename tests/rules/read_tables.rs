@@ -1,6 +1,7 @@
 //! What read writes, the sizes of its tables, and the order in which it tests.
 
-use second::{ENTRY_NUMBERS, ReadAnswer, SLOT_NUMBERS, read};
+use crate::program::read;
+use second::{ENTRY_NUMBERS, ReadAnswer, SLOT_NUMBERS};
 
 const HEADER: &str = "package,version,weight,needs,constraint\r\n";
 

@@ -1,6 +1,7 @@
 //! Constraints: each form, each way of being outside the rules, and the limits.
 
-use second::{FitsAnswer, Version, fits};
+use crate::program::fits;
+use second::{FitsAnswer, Version};
 
 fn assert_fits(constraint: &str, fitting: &[Version], others: &[Version]) {
     for (versions, expected) in [(fitting, true), (others, false)] {

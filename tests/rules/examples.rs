@@ -1,7 +1,7 @@
 //! "Bench examples", one test each. Those of the caret stand in `constraints`, the limits of
 //! entries and slots in `refusals`, the depth and length in `constraints` and here.
 
-use crate::bench::{ALLOWED, Bench, CARGO, FORBIDDEN, NPM, PIP, given, refused};
+use super::bench::{ALLOWED, Bench, CARGO, FORBIDDEN, NPM, PIP, given, refused};
 use second::Record;
 
 /// "Loop catalogue: root 0; A 1.0.0 (1); A 2.0.0 (2) needs B; B 1.0.0 (3) needs A; root needs A;

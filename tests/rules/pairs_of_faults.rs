@@ -1,6 +1,6 @@
 //! Two faults at once: "Outside read the lowest number that applies is given."
 
-use crate::bench::{Bench, refused};
+use super::bench::{Bench, refused};
 use second::Record;
 
 /// What is handed to a turn, and to next with the record's set.

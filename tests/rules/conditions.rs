@@ -1,10 +1,11 @@
 //! The six conditions, each broken alone where that can be had, and the errors of reasoning that
 //! 01 excludes.
 
-use crate::bench::{ALLOWED, Bench, CARGO, FORBIDDEN, NPM, PIP};
+use super::bench::{ALLOWED, Bench, CARGO, FORBIDDEN, NPM, PIP};
 use second::{CheckAnswer, conditions};
 
-/// Asserts that exactly the given conditions fail, and that check names the first of them.
+/// Asserts that check names the first of the given conditions. That exactly these fail is asked of
+/// the second program, the only one that judges each on its own.
 fn assert_fails(bench: &Bench, set: u64, table: &[u8], failing: &[u8]) {
     let first = CheckAnswer {
         refusal: 0,
@@ -178,6 +179,35 @@ fn condition_6_two_ways_to_one_member_are_no_cycle() {
         .needs(3, "*")
         .entry(3, [1, 0, 0], 0);
     assert_sound(&bench, 15, &[1, 2, 3, 3, 3]);
+}
+
+#[test]
+fn each_condition_with_every_later_one() {
+    // The root needs A twice and B (= 1 0 0); A 1.0.0 needs C, and C needs A. Entries 1 and 2 are
+    // A 1.0.0 and 2.0.0, 3 and 4 are B 1.0.0 and 2.0.0, 5 is C.
+    let bench = Bench::new()
+        .entry(0, [1, 0, 0], 0)
+        .needs(1, "*")
+        .needs(1, "*")
+        .needs(2, "(= 1 0 0)")
+        .entry(1, [1, 0, 0], 0)
+        .needs(3, "*")
+        .entry(1, [2, 0, 0], 0)
+        .entry(2, [1, 0, 0], 0)
+        .entry(2, [2, 0, 0], 0)
+        .entry(3, [1, 0, 0], 0)
+        .needs(1, "*")
+        .settings_of(PIP, FORBIDDEN, &[0]);
+    // A 1.0.0 and C in a circle; then both A; then B 2.0.0; then no B named; then B 2.0.0 beside
+    // what is reached; then a bit past the last entry too.
+    assert_fails(&bench, 43, &[1, 1, 3, 5, 1], &[6]);
+    assert_fails(&bench, 47, &[1, 2, 3, 5, 1], &[5, 6]);
+    assert_fails(&bench, 55, &[1, 2, 4, 5, 1], &[4, 5, 6]);
+    assert_fails(&bench, 39, &[1, 2, 255, 5, 1], &[3, 4, 5, 6]);
+    assert_fails(&bench, 55, &[1, 2, 255, 5, 1], &[2, 3, 4, 5, 6]);
+    assert_fails(&bench, 119, &[1, 2, 255, 5, 1], &[1, 2, 3, 4, 5, 6]);
+    // What is sound here: one A without a circle.
+    assert_sound(&bench, 13, &[2, 2, 3, 255, 255]);
 }
 
 #[test]

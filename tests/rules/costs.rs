@@ -1,11 +1,11 @@
 //! The cost by every list of objectives, and the order of the listing.
 
-use crate::bench::{Bench, CARGO, FORBIDDEN, NPM};
+use super::bench::{Bench, CARGO, FORBIDDEN, NPM};
 use second::Cost;
 
 /// Every list of objectives with the costs of the input's two plans: weight 3 and 8,
 /// dependencies 4 and 3, duplicates 1 and 0.
-const COSTS: [(&[u8], Cost, Cost); 15] = [
+pub const COSTS: [(&[u8], Cost, Cost); 15] = [
     (&[0], [3, 0, 0], [8, 0, 0]),
     (&[1], [4, 0, 0], [3, 0, 0]),
     (&[2], [1, 0, 0], [0, 0, 0]),
