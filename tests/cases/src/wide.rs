@@ -1,6 +1,8 @@
 //! Sane catalogues that have far too many tables to try, up to the limits of entries and slots, yet
 //! few free choices: most slots fit one entry.
 
+use std::ops::Range;
+
 use crate::catalogues::any_settings;
 use crate::inputs::Lent;
 use crate::random::Random;
@@ -28,8 +30,8 @@ struct Need {
 }
 
 /// Packages of one version each, every one but the first wanted by an earlier one; and for every
-/// two free slots a package of three versions. Whatever is chosen, the plan is sound if the
-/// versions go together. The root is the first of all, put anywhere.
+/// two free slots a package of three versions, of which the first and the last can always be had.
+/// The root is the first of all, put anywhere.
 pub fn wide(random: &mut Random, width: Width) -> Lent {
     let shared = width.free.div_ceil(2);
     let single = width.entries - VERSIONS.len() * shared;
@@ -73,7 +75,8 @@ fn push_entries(random: &mut Random, lent: &mut Lent, single: usize, places: &[u
 }
 
 /// The slots. Owners of free slots stand in the front half of the single packages, and what the
-/// shared ones need in the back half, so there is no cycle unless `back` lets slots lead back.
+/// shared ones need in the back half, so these make no cycle. A few slots more may make one: `back`
+/// lets any lead back, else those of second versions alone do, and the others stay free of cycles.
 fn needs(random: &mut Random, width: Width, single: usize, back: bool) -> Vec<Need> {
     let mut needs: Vec<Need> = (1..single)
         .map(|package| fixed(random, package, 0..package))
@@ -87,11 +90,13 @@ fn needs(random: &mut Random, width: Width, single: usize, back: bool) -> Vec<Ne
     }
     while needs.len() < width.slots {
         let need = match random.below(8) {
-            0 if back => {
+            0 => {
                 let package = random.below(single);
-                fixed(random, package, 0..single)
+                let second = single + 3 * random.below((width.entries - single) / 3) + 1;
+                let owners = if back { 0..single } else { second..second + 1 };
+                fixed(random, package, owners)
             }
-            0..4 => {
+            1..4 => {
                 let package = single / 2 + random.below(single - single / 2);
                 fixed(random, package, single..width.entries)
             }
@@ -106,7 +111,7 @@ fn needs(random: &mut Random, width: Width, single: usize, back: bool) -> Vec<Ne
 }
 
 /// A slot of one of the owners for a package of one version.
-fn fixed(random: &mut Random, package: usize, owners: std::ops::Range<usize>) -> Need {
+fn fixed(random: &mut Random, package: usize, owners: Range<usize>) -> Need {
     Need {
         owner: owners.start + random.below(owners.len()),
         package,
