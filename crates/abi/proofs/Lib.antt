@@ -1,2 +1,3 @@
--- Laws of how an answer crosses.
+-- Laws of how an answer crosses, and that each function has one outcome.
 pub mod Crossed
+pub mod Outcome
