@@ -58,7 +58,7 @@ fn lent<T>(slice: &[T]) -> *const T {
 }
 
 /// The pointer of a slice to write to, null for an empty one.
-fn written<T>(slice: &mut [T]) -> *mut T {
+fn room<T>(slice: &mut [T]) -> *mut T {
     if slice.is_empty() {
         null_mut()
     } else {
@@ -71,58 +71,69 @@ fn written<T>(slice: &mut [T]) -> *mut T {
 pub fn fits(part: &[u8], [major, minor, patch]: Version, fit: &mut [u8]) -> u8 {
     // SAFETY: each pointer is that of a live slice and is followed by its length, or is null with
     // length 0; the slice written is borrowed mutably, so it overlaps no other. So it is below.
-    unsafe { boxplan_fits(lent(part), part.len(), major, minor, patch, written(fit), fit.len()) }
+    unsafe { boxplan_fits(lent(part), part.len(), major, minor, patch, room(fit), fit.len()) }
 }
 
 /// `boxplan_check`.
 #[rustfmt::skip]
-pub fn check(c: &Catalogue, s: &Settings, set: u64, table: &[u8], condition: &mut [u8], cost: &mut [u32]) -> u8 {
+pub fn check(catalogue: &Catalogue, settings: &Settings, set: u64, table: &[u8], condition: &mut [u8], cost: &mut [u32]) -> u8 {
+    let Catalogue { entries, slots, text } = *catalogue;
+    let Settings { root, mode, cycles, objectives } = *settings;
     // SAFETY: as of `fits`.
     unsafe {
         boxplan_check(
-            lent(c.entries), c.entries.len(), lent(c.slots), c.slots.len(), lent(c.text), c.text.len(),
-            s.root, s.mode, s.cycles, lent(s.objectives), s.objectives.len(),
-            set, lent(table), table.len(), written(condition), condition.len(), written(cost), cost.len(),
+            lent(entries), entries.len(), lent(slots), slots.len(), lent(text), text.len(),
+            root, mode, cycles, lent(objectives), objectives.len(),
+            set, lent(table), table.len(), room(condition), condition.len(), room(cost), cost.len(),
         )
     }
 }
 
 /// `boxplan_first`.
 #[rustfmt::skip]
-pub fn first(c: &Catalogue, s: &Settings, w: Written) -> u8 {
+pub fn first(catalogue: &Catalogue, settings: &Settings, written: Written) -> u8 {
+    let Catalogue { entries, slots, text } = *catalogue;
+    let Settings { root, mode, cycles, objectives } = *settings;
+    let Written { plan, set, cost } = written;
     // SAFETY: as of `fits`.
     unsafe {
         boxplan_first(
-            lent(c.entries), c.entries.len(), lent(c.slots), c.slots.len(), lent(c.text), c.text.len(),
-            s.root, s.mode, s.cycles, lent(s.objectives), s.objectives.len(),
-            written(w.plan), w.plan.len(), written(w.set), w.set.len(), written(w.cost), w.cost.len(),
+            lent(entries), entries.len(), lent(slots), slots.len(), lent(text), text.len(),
+            root, mode, cycles, lent(objectives), objectives.len(),
+            room(plan), plan.len(), room(set), set.len(), room(cost), cost.len(),
         )
     }
 }
 
 /// `boxplan_next`.
 #[rustfmt::skip]
-pub fn next(c: &Catalogue, s: &Settings, given: u64, w: Written) -> u8 {
+pub fn next(catalogue: &Catalogue, settings: &Settings, given: u64, written: Written) -> u8 {
+    let Catalogue { entries, slots, text } = *catalogue;
+    let Settings { root, mode, cycles, objectives } = *settings;
+    let Written { plan, set, cost } = written;
     // SAFETY: as of `fits`.
     unsafe {
         boxplan_next(
-            lent(c.entries), c.entries.len(), lent(c.slots), c.slots.len(), lent(c.text), c.text.len(),
-            s.root, s.mode, s.cycles, lent(s.objectives), s.objectives.len(),
-            given, written(w.plan), w.plan.len(), written(w.set), w.set.len(), written(w.cost), w.cost.len(),
+            lent(entries), entries.len(), lent(slots), slots.len(), lent(text), text.len(),
+            root, mode, cycles, lent(objectives), objectives.len(),
+            given, room(plan), plan.len(), room(set), set.len(), room(cost), cost.len(),
         )
     }
 }
 
 /// `boxplan_turn`.
 #[rustfmt::skip]
-pub fn turn(c: &Catalogue, s: &Settings, stage: &mut [u8], last: &mut [u64], w: Written) -> u8 {
+pub fn turn(catalogue: &Catalogue, settings: &Settings, stage: &mut [u8], last: &mut [u64], written: Written) -> u8 {
+    let Catalogue { entries, slots, text } = *catalogue;
+    let Settings { root, mode, cycles, objectives } = *settings;
+    let Written { plan, set, cost } = written;
     // SAFETY: as of `fits`.
     unsafe {
         boxplan_turn(
-            lent(c.entries), c.entries.len(), lent(c.slots), c.slots.len(), lent(c.text), c.text.len(),
-            s.root, s.mode, s.cycles, lent(s.objectives), s.objectives.len(),
-            written(stage), stage.len(), written(last), last.len(),
-            written(w.plan), w.plan.len(), written(w.set), w.set.len(), written(w.cost), w.cost.len(),
+            lent(entries), entries.len(), lent(slots), slots.len(), lent(text), text.len(),
+            root, mode, cycles, lent(objectives), objectives.len(),
+            room(stage), stage.len(), room(last), last.len(),
+            room(plan), plan.len(), room(set), set.len(), room(cost), cost.len(),
         )
     }
 }
@@ -133,8 +144,8 @@ pub fn read(text: &[u8], entries: &mut [u16], slots: &mut [u16], counts: &mut [u
     // SAFETY: as of `fits`.
     unsafe {
         boxplan_read(
-            lent(text), text.len(), written(entries), entries.len(), written(slots), slots.len(),
-            written(counts), counts.len(),
+            lent(text), text.len(), room(entries), entries.len(), room(slots), slots.len(),
+            room(counts), counts.len(),
         )
     }
 }

@@ -58,6 +58,7 @@ fn read(lent: &LentText, tally: &mut Tally) -> Result<(), String> {
     tally.count("read", answer.refusal);
     same("read", other, answer)?;
     let [by_proved, by_second] = after;
+    same("the text after read", &lent.text, &by_second.text)?;
     same("the tables after read", by_proved, by_second)
 }
 

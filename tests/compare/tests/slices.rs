@@ -102,16 +102,16 @@ type Listing = fn(&Catalogue, &Settings, Written) -> u8;
 
 /// First, next after the root alone, and turn with a fresh record.
 const LISTINGS: [Listing; 3] = [
-    |c, s, w| ffi::first(c, s, w),
-    |c, s, w| ffi::next(c, s, 1, w),
-    |c, s, w| ffi::turn(c, s, &mut [0], &mut [5], w),
+    |catalogue, settings, written| ffi::first(catalogue, settings, written),
+    |catalogue, settings, written| ffi::next(catalogue, settings, 1, written),
+    |catalogue, settings, written| ffi::turn(catalogue, settings, &mut [0], &mut [5], written),
 ];
 
 #[test]
 fn listing_calls_with_empty_slices() {
     for (place, call) in LISTINGS.iter().enumerate() {
         let given = |catalogue, settings| {
-            let (number, held) = listed([0, 1, 3], |w| call(catalogue, settings, w));
+            let (number, held) = listed([0, 1, 3], |written| call(catalogue, settings, written));
             (number, held.1, held.2)
         };
         let refused = |number| (number, vec![0], vec![0, 0, 0]);
@@ -171,7 +171,9 @@ fn a_set_or_cost_of_another_length_is_7() {
     for [set, cost] in [[0, 3], [2, 3], [1, 0], [1, 2], [1, 4], [0, 0], [3, 1]] {
         for call in LISTINGS {
             for catalogue in [TWO_PLANS, NOTHING] {
-                let given = listed([1, set, cost], |w| call(&catalogue, &SETTINGS, w));
+                let given = listed([1, set, cost], |written| {
+                    call(&catalogue, &SETTINGS, written)
+                });
                 assert_eq!(given, (7, (vec![9], vec![9; set], vec![9; cost])));
             }
         }
@@ -184,8 +186,8 @@ fn a_record_of_another_length_is_7() {
         for catalogue in [TWO_PLANS, NOTHING] {
             let mut stage = vec![0; lengths[0]];
             let mut last = vec![5; lengths[1]];
-            let given = listed([1, 1, 3], |w| {
-                ffi::turn(&catalogue, &SETTINGS, &mut stage, &mut last, w)
+            let given = listed([1, 1, 3], |written| {
+                ffi::turn(&catalogue, &SETTINGS, &mut stage, &mut last, written)
             });
             assert_eq!(given, (7, (vec![9], vec![9], vec![9; 3])));
             assert_eq!(stage, vec![0; lengths[0]]);
