@@ -1,3 +1,4 @@
+pub mod Answers
 pub mod Decide
 pub mod Lists
 pub mod Rows

@@ -1,8 +1,8 @@
--- Sums over the numbers below a bound: the first term taken out, terms that are equal, terms of at most 1, and one term that is more.
+-- Sums over the numbers below a bound: the first term taken out, terms that are equal, terms that are bounded, and one term that is more.
 use mathlib.Core.Path.{_≡_, refl}
 use mathlib.Core.Logic.{_⊎_, inl, inr}
-use Prim.Native.Nat.{ℕ, zero, suc, _+_, _≤_, _<_}
-use native.Mathlib.Nat.{not-suc-le-zero}
+use Prim.Native.Nat.{ℕ, zero, suc, _+_, _*_, _≤_, _<_}
+use native.Mathlib.Nat.{not-suc-le-zero, suc-mul}
 use native.Mathlib.Omega.{arith}
 use Rattle.basis.specs.Sum.{sum}
 use Rattle.basis.proofs.Decide.{below-suc}
@@ -17,10 +17,10 @@ pub sum-same : (f g : ℕ → ℕ) (n : ℕ) → ((e : ℕ) → e < n → f e �
 sum-same f g zero h = refl
 sum-same f g (suc n) h = omega (arith, sum-same f g n (λ e l. h e (omega arith)), h n (omega arith))
 
--- a sum of terms that are at most 1 is at most their number
-pub sum-le : (f : ℕ → ℕ) (n : ℕ) → ((e : ℕ) → f e ≤ 1) → sum f n ≤ n
-sum-le f zero h = omega arith
-sum-le f (suc n) h = omega (arith, sum-le f n h, h n)
+-- a sum of terms of at most k
+pub sum-bound : (f : ℕ → ℕ) (n k : ℕ) → ((e : ℕ) → f e ≤ k) → sum f n ≤ n * k
+sum-bound f zero k h = omega arith
+sum-bound f (suc n) k h = omega (arith, sum-bound f n k h, h n, suc-mul n k)
 
 -- where one term is more by x, and the others are equal, so is the sum
 pub sum-changed : (f g : ℕ → ℕ) (n e x : ℕ) → e < n → f e ≡ g e + x → ((d : ℕ) → ¬ (d ≡ e) → f d ≡ g d) → sum f n ≡ sum g n + x

@@ -12,7 +12,7 @@ use Rattle.basis.specs.Sum.{sum}
 use Rattle.bitset.specs.Bits.{bit, Member, count}
 use Rattle.bitset.proofs.Made.{bit-added, bit-kept}
 use Rattle.bitset.proofs.Sets.{bit-cases, bit-of-none, bit-first, bit-next}
-use Rattle.basis.proofs.Sums.{sum-first, sum-same, sum-le, sum-more, sum-mono, sum-less}
+use Rattle.basis.proofs.Sums.{sum-first, sum-same, sum-bound, sum-more, sum-mono, sum-less}
 
 -- the sum of the bits below n of a set below 2 ^ n is the number of its ones
 pub sum-ones : (n set : ℕ) → set < 2 ^ n → sum (λ e. bit set e) n ≡ ones set
@@ -35,7 +35,7 @@ count-below n set l h = count-ones set (lt-of-lt-of-le h (pow-mono l)) ∙ sym (
 -- the count is at most 64
 pub count-le : (set : ℕ) → count set ≤ 64
 unfolding count
-count-le set = sum-le (λ e. bit set e) 64 (λ e. omega arith)
+count-le set = sum-bound (λ e. bit set e) 64 1 (λ e. omega arith)
 
 -- the empty set counts 0
 pub count-empty : count 0 ≡ 0

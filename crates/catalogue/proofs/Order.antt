@@ -9,11 +9,11 @@ use lib.Dec.{T, ltb, ltb→lt}
 use lib.ListN.{length}
 use Rattle.basis.specs.Rows.{Row, row, Gives, GivesNone}
 use Rattle.basis.specs.Tests.{Decides}
-use Rattle.basis.proofs.Rows.{gives-after, none-after}
+use Rattle.basis.proofs.Answers.{holds, fails}
+use Rattle.basis.proofs.Rows.{gives-before, gives-after, none-after}
 use Rattle.catalogue.specs.Tables.{Lent, entryCount, slotCount, startOf, endOf}
 use Rattle.catalogue.specs.Refusals.{rows, EntriesMisshapen, ConstraintUnread}
 use Rattle.catalogue.specs.Steps.{Numbered, given, clear, Shaped, shapeRows, setupRows}
-use Rattle.catalogue.proofs.Searches.{told, denied}
 
 -- no row
 pub none : Numbered [] 0
@@ -21,11 +21,11 @@ none = clear tt refl
 
 -- a row whose test answers true gives its number; after one whose test answers false the others decide
 pub first : {b : Bool} {m : ℕ} {A : Type 0} {rs : List Row} → T (ltb 0 m) → Decides b A → b ≡ true → Numbered (row m A ∷ rs) m
-first {b} {m} t d e = given (inl (told d e, refl)) (λ z. omega (arith, ltb→lt 0 m t))
+first {b} {m} t d e = given (inl (holds d e, refl)) (λ z. omega (arith, ltb→lt 0 m t))
 
 pub next : {b : Bool} {m n : ℕ} {A : Type 0} {rs : List Row} → Decides b A → b ≡ false → Numbered rs n → Numbered (row m A ∷ rs) n
-next d e (given g z) = given (inr (denied d e, g)) z
-next d e (clear g z) = clear (denied d e, g) z
+next d e (given g z) = given (inr (fails d e, g)) z
+next d e (clear g z) = clear (fails d e, g) z
 
 -- what a number tells
 pub number-gives : {rs : List Row} {n : ℕ} → Numbered rs n → ¬ (n ≡ 0) → Gives rs n
@@ -37,11 +37,6 @@ zero-gives-none (given g z) h = absurd (z h)
 zero-gives-none (clear g z) h = g
 
 -- rows before rows
-pub gives-before : (rs ss : List Row) (n : ℕ) → Gives rs n → Gives (rs ++ ss) n
-gives-before [] ss n g = absurd g
-gives-before (r ∷ rs) ss n (inl a) = inl a
-gives-before (r ∷ rs) ss n (inr a) = inr (a .0, gives-before rs ss n (a .1))
-
 pub numbered-before : (rs ss : List Row) {n : ℕ} → Numbered rs n → ¬ (n ≡ 0) → Numbered (rs ++ ss) n
 numbered-before rs ss {n} d h = given (gives-before rs ss n (number-gives d h)) h
 

@@ -1,13 +1,13 @@
 // The lent tables, text and settings of a call: what they hold, how each refusal of 1 to 8 is found, and the sets of entries that fit the slots.
 pub mod call;
-pub mod entries;
+mod entries;
 pub mod fields;
 mod index;
 mod packing;
 mod refusals;
-pub mod setup;
-pub mod slots;
-pub mod weights;
+mod setup;
+mod slots;
+mod weights;
 
 // The settings of a call (document 01, "The lent tables"). Every value is taken: one outside the rules is refused by its number.
 pub struct Settings {

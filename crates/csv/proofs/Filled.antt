@@ -26,19 +26,19 @@ use Rattle.csv.proofs.Walks.{_then_, Next, next-line, all-passed, lines
 use Rattle.csv.proofs.Found.{entry-of, slot-of, entry-within, slot-within}
 
 -- the line that is read is the next line of the text
-entry-is : {text : List ℕ} {lines done : List Line} {at : ℕ} {e : EntryParts} → Lays text lines → (x : Next text lines done at)
+pub entry-is : {text : List ℕ} {lines done : List Line} {at : ℕ} {e : EntryParts} → Lays text lines → (x : Next text lines done at)
     → (f : EntryFound (drop (at + 2) text) e) → lines ≡ done ++ (entry-of f ∷ x .more)
 entry-is {done = done} l x f =
     let same = same-line (entry-of f) (x .line) (f .rest) (body (x .more) ++ x .ending) (f .ok) (next-ok l x) (f .ends) (lines-at-end (x .more) (x .ending) (x .ends)) (sym (f .whole) ∙ x .rest) in
     x .same ∙ ap (λ (m : Line). done ++ (m ∷ x .more)) (sym same)
 
-slot-is : {text : List ℕ} {lines done : List Line} {at : ℕ} {e : SlotParts} → Lays text lines → (x : Next text lines done at)
+pub slot-is : {text : List ℕ} {lines done : List Line} {at : ℕ} {e : SlotParts} → Lays text lines → (x : Next text lines done at)
     → (f : SlotFound (drop (at + 2) text) e) → lines ≡ done ++ (slot-of f ∷ x .more)
 slot-is {done = done} l x f =
     let same = same-line (slot-of f) (x .line) (f .rest) (body (x .more) ++ x .ending) (f .ok) (next-ok l x) (f .ends) (lines-at-end (x .more) (x .ending) (x .ends)) (sym (f .whole) ∙ x .rest) in
     x .same ∙ ap (λ (m : Line). done ++ (m ∷ x .more)) (sym same)
 
-entries-of : (done more : List Line) → entryCount (done ++ more) ≡ entryCount done + entryCount more
+pub entries-of : (done more : List Line) → entryCount (done ++ more) ≡ entryCount done + entryCount more
 entries-of [] more = omega arith
 entries-of (entry n x y z w ∷ done) more = omega (arith, entries-of done more)
 entries-of (slot n c ∷ done) more = entries-of done more

@@ -5,10 +5,12 @@ use count::Tally;
 mod count;
 mod field;
 mod fill;
-mod line;
+pub mod line;
 mod packages;
 mod word;
 
+pub use field::plain_bytes;
+pub use word::HEADER;
 ghost use Rattle.csv.specs.Reading.{Reads};
 
 pub enum Sheet {

@@ -9,3 +9,10 @@ pub mod Loop
 pub mod Ends
 pub mod Bench
 pub mod Excluded
+pub mod Outcomes
+pub mod Demand1
+pub mod Demand2
+pub mod Asked
+pub mod Demand3
+pub mod Liars
+pub mod Program

@@ -39,13 +39,13 @@ module _ (L : Lent) where
 
   module _ (q : Asked) (buffer : List ℕ) (g : GivesNone (rows L (length buffer))) (b : Backed q) (a : Answer) (x : List ℕ) where
     -- where a plan is left, the answer is the least
-    answers-least : (P : A-plan) → Least (problem L) q P → Lists L q buffer a x → (a ≡ given L P) × (x ≡ P .table)
+    pub answers-least : (P : A-plan) → Least (problem L) q P → Lists L q buffer a x → (a ≡ given L P) × (x ≡ P .table)
     answers-least P l (refused {n = n} h e k) =
         absurd (gives-not-none (askRows L (length buffer) q) n h (ask-none (length buffer) q g b (least-or-none-left (problem L) l)))
     answers-least P l (found {P = Q} h m e k) = let same : Q ≡ P = least-is-one (problem L) m l in (cc, cc)
 
     -- where none is left, it is 11
-    answers-none : NoneLeft (problem L) q → Lists L q buffer a x → (a ≡ Refused (refusal 11)) × (x ≡ buffer)
+    pub answers-none : NoneLeft (problem L) q → Lists L q buffer a x → (a ≡ Refused (refusal 11)) × (x ≡ buffer)
     answers-none n (refused {n = m} h e k) =
         let same : m ≡ 11 = gives-one (askRows L (length buffer) q) m 11 h (ask-eleven (length buffer) q g b n) in (cc, k)
     answers-none n (found h m e k) = absurd (least-or-none-left (problem L) m n)

@@ -25,6 +25,8 @@ use Rattle.lister.specs.declared.Answer.the-variants.{Refused, Plan}
 use Rattle.lister.specs.declared.Best.{Best}
 use Rattle.lister.specs.Answers.{given, Lists, refused, found}
 use Rattle.lister.specs.Search.{askedIf, Costed}
+use Rattle.price.specs.Worth.{Apart}
+use Rattle.price.proofs.Worth.{different-codes}
 use Rattle.lister.specs.Walks.{Posed, Found, none-left, the-least, UnsoundIf}
 use Rattle.lister.proofs.Asked.{Backed, ask-eleven, ask-none}
 
@@ -72,6 +74,7 @@ module _ (L : Lent) (buffer : List ℕ) where
           entries = few-entries L (length buffer) s;
           slots = few-slots;
           root = there s;
+          apart = apart s;
           past-sized = same-size ∙ room;
           plan-sized = room;
           given-costed = costed;
@@ -79,6 +82,9 @@ module _ (L : Lent) (buffer : List ℕ) where
       where
         there : Sane L (length buffer) → L .settings .root < entryCount L
         there s = let here : ¬ (entryCount L ≤ L .settings .root) = s .root in omega arith
+
+        apart : Sane L (length buffer) → Apart (L .objectives)
+        apart s = different-codes (L .objectives) (s .once)
 
     -- the same by what a program knows: a test, and a table kept aside
     pub answered-unsound : (b r : Bool) (P : A-plan) → UnsoundIf b (indexed L fits) P r → r ≡ true → Lists L (askedIf b P) buffer (Refused (refusal 10)) buffer

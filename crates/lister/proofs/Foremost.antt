@@ -1,4 +1,4 @@
--- A search of the node that all plans are inside of, with no limit, gives the least plan that is asked for, or says that none is left.
+-- A search of the node that all plans are inside of, below a bound, gives the least plan that is asked for, or says that none is below the bound.
 use mathlib.Core.Path.{_≡_, refl, sym, ap, _∙_, subst}
 use mathlib.Core.Bool.{Bool, true, false, true≢false}
 use mathlib.Core.List.{List}
@@ -9,13 +9,14 @@ use lib.ListN.{getD}
 use Rattle.bitset.specs.Bits.{Member}
 use Rattle.bitset.specs.Changes.{With}
 use Rattle.bitset.proofs.Sets.{none-in-empty}
+use Rattle.pacsolve.specs.declared.Cost.{Cost}
 use Rattle.pacsolve.specs.Problem.{Problem}
 use Rattle.pacsolve.specs.Plan.{Plan, plan, chosen}
-use Rattle.pacsolve.specs.Listing.{Good, Asked, Least, NoneLeft}
+use Rattle.pacsolve.specs.Listing.{Good, Asked, Least}
 use Rattle.lister.specs.declared.Best.{Best}
 use Rattle.lister.specs.declared.Node.{Node}
-use Rattle.lister.specs.Search.{Limit, no-limit, before, Inside, Tightened, same, better, Searched, limitOf, askedOf}
-use Rattle.lister.specs.Walks.{Ready, Walked, Posed, Found, none-left, the-least}
+use Rattle.lister.specs.Search.{Limit, under, before, Inside, Tightened, same, better, Searched, limitOf, askedOf}
+use Rattle.lister.specs.Walks.{Ready, Walked, Posed, NoneUnder, FoundUnder, none-under, found-least}
 
 module _ (p : Problem) (q : Asked) (must : ℕ) (choices : List ℕ) (only-root : (e : ℕ) → Member must e → e ≡ p .root)
     (all-fits : (s e : ℕ) → s < p .slots → e < p .entries → p .fits s e → Member (getD choices s 0) e) where
@@ -28,22 +29,37 @@ module _ (p : Problem) (q : Asked) (must : ℕ) (choices : List ℕ) (only-root 
         names = λ s h m. let f = g .sound .fitting s h m in all-fits s (chosen P s) h (f .0) (f .1);
       }
 
-  pub searched-none-left : Searched p q no-limit must 0 choices no-limit → NoneLeft p q
-  searched-none-left s Q g w = s .spent Q (record { good = g; wanted = w; below = tt; inside = all-inside Q g })
+  Is-under : Limit → Type 0
+  Is-under (under c) = Unit {0}
+  Is-under (before P) = ⊥
+
+  -- nothing that is asked for costs less than the bound
+  bound-of : Limit → Cost → Cost
+  bound-of (under c) d = c
+  bound-of (before P) d = d
+
+  pub searched-none-under : (c d : Cost) → Searched p q (under c) must 0 choices (under d) → NoneUnder p q c
+  unfolding bound-of Is-under
+  searched-none-under c d s Q g w b =
+      s .spent Q (record { good = g; wanted = w; below = rw (same-bound (s .tightened)) b; inside = all-inside Q g })
+    where
+      same-bound : Tightened p q (under c) (under d) → d ≡ c
+      same-bound (same e) = ap (λ (l : Limit). bound-of l c) e
+      same-bound (better g w b e) = absurd (subst Is-under e tt)
 
   plan-of : Limit → Plan → Plan
-  plan-of no-limit P = P
+  plan-of (under c) P = P
   plan-of (before Q) P = Q
 
   Is-before : Limit → Type 0
-  Is-before no-limit = ⊥
+  Is-before (under c) = ⊥
   Is-before (before P) = Unit {0}
 
-  pub searched-least : (P : Plan) → Searched p q no-limit must 0 choices (before P) → Least p q P
+  pub searched-least : (c : Cost) (P : Plan) → Searched p q (under c) must 0 choices (before P) → Least p q P
   unfolding plan-of Is-before
-  searched-least P s = go (s .tightened)
+  searched-least c P s = go (s .tightened)
     where
-      go : Tightened p q no-limit (before P) → Least p q P
+      go : Tightened p q (under c) (before P) → Least p q P
       go (same e) = absurd (subst Is-before e tt)
       go (better {P = R} g w b e) =
           let its : P ≡ R = ap (λ (l : Limit). plan-of l P) e in
@@ -79,11 +95,11 @@ module _ (p : Problem) (given : Best) (past buffer : List ℕ) (posed : Posed p 
       go (inr h) = absurd (none-in-empty e h)
 
   pub found-by : (choices : List ℕ) → ((s e : ℕ) → s < p .slots → e < p .entries → p .fits s e → Member (getD choices s 0) e) → node .ban ≡ 0 → (r : Best) (buffer′ : List ℕ)
-      → Walked p given past node choices nothing buffer r buffer′ → Found p (askedOf given past) buffer r buffer′
+      → Walked p given past node choices nothing buffer r buffer′ → FoundUnder p (askedOf given past) (nothing .cost) buffer r buffer′
   found-by choices all-fits free r buffer′ w = go (r .found) refl (rw (none-yet, free) at (w .searched)) (w .written)
     where
-      go : (b : Bool) → r .found ≡ b → Searched p (askedOf given past) no-limit (node .must) 0 choices (limitOf r buffer′)
-          → (r .found ≡ true) ⊎ ((buffer′ ≡ buffer) × (r .found ≡ nothing .found)) → Found p (askedOf given past) buffer r buffer′
-      go true e s x = the-least e (searched-least p (askedOf given past) (node .must) choices root-only all-fits (plan (r .set) buffer′) (rw e at s)) (w .costed e)
+      go : (b : Bool) → r .found ≡ b → Searched p (askedOf given past) (under (nothing .cost)) (node .must) 0 choices (limitOf r buffer′)
+          → (r .found ≡ true) ⊎ ((buffer′ ≡ buffer) × (r .found ≡ nothing .found)) → FoundUnder p (askedOf given past) (nothing .cost) buffer r buffer′
+      go true e s x = found-least e (searched-least p (askedOf given past) (node .must) choices root-only all-fits (nothing .cost) (plan (r .set) buffer′) (rw e at s)) (w .costed e)
       go false e s (inl x) = absurd (true≢false (sym x ∙ e))
-      go false e s (inr x) = none-left e (searched-none-left p (askedOf given past) (node .must) choices root-only all-fits (rw e at s)) (x .0)
+      go false e s (inr x) = none-under e (searched-none-under p (askedOf given past) (node .must) choices root-only all-fits (nothing .cost) (r .cost) (rw e at s)) (x .0)

@@ -20,7 +20,7 @@ use Rattle.pacsolve.specs.Listing.{Good, Wanted}
 use Rattle.lister.specs.declared.Best.{Best}
 use Rattle.lister.specs.declared.Node.{Node}
 use Rattle.lister.specs.Search.{Below, limitIf, limitOf, askedIf, askedOf, Searched}
-use Rattle.lister.specs.Steps.{AheadIf, Settles, Tabled}
+use Rattle.lister.specs.Steps.{AheadIf, Sooner, Settles, Tabled}
 use Rattle.lister.specs.Walks.{Ready, Walked}
 use Rattle.lister.proofs.Complete.{Slotted, searched-kept, searched-none}
 use Rattle.lister.proofs.Preceding.{ahead-precedes}
@@ -32,9 +32,9 @@ wanted-if p true P Q a c e f = ahead-precedes p P Q a c (P .table) (Q .table) (e
 wanted-if p false P Q a c e f = (λ x. x, λ x. x)
 
 below-if : (p : Problem) (b : Bool) (P Q : Plan) (a c : Cost) → a ≡ cost p (P .set) → (b ≡ true → c ≡ cost p (Q .set))
-    → AheadIf b a (P .table) c (Q .table) ↔ Below p (limitIf b Q) P
+    → Sooner b a (P .table) c (Q .table) ↔ Below p (limitIf b c Q) P
 below-if p true P Q a c e f = ahead-precedes p P Q a c (P .table) (Q .table) e refl (f refl) refl
-below-if p false P Q a c e f = (λ x. x, λ x. x)
+below-if p false P Q a c e f = (λ x. rw (← e) x, λ x. rw e x)
 
 module _ (p : Problem) (slots : List ℕ) (slotted : Slotted p slots) (given : Best) (past : List ℕ) (node : Node) (choices : List ℕ) (best : Best) (buffer : List ℕ)
     (ready : Ready p given past node best buffer) (settles : Settles slots (node .must) choices) (table : List ℕ) (tabled : Tabled slots (node .must) choices table)
@@ -72,13 +72,13 @@ module _ (p : Problem) (slots : List ℕ) (slotted : Slotted p slots) (given : B
     kept-unwanted n =
         left-alone (none (λ x. n (rw cut (wanted-if p (given .found) (plan (given .set) past) K (given .cost) c (ready .given-costed) its .1 (x .1 .0)))))
 
-    pub kept-later : ¬ AheadIf (best .found) c (take (length buffer) table) (best .cost) buffer → Walked p given past node choices best buffer best buffer
+    pub kept-later : ¬ Sooner (best .found) c (take (length buffer) table) (best .cost) buffer → Walked p given past node choices best buffer best buffer
     unfolding K
     kept-later n =
         left-alone (none (λ x. n (rw cut (below-if p (best .found) K (plan (best .set) buffer) c (best .cost) its (ready .best-costed) .1 (x .1 .1)))))
 
     pub kept-new : Sound p (plan (node .must) (take (length buffer) table)) → AheadIf (given .found) (given .cost) past c (take (length buffer) table)
-        → AheadIf (best .found) c (take (length buffer) table) (best .cost) buffer → (buffer′ : List ℕ) → buffer′ ≡ take (length buffer) table
+        → Sooner (best .found) c (take (length buffer) table) (best .cost) buffer → (buffer′ : List ℕ) → buffer′ ≡ take (length buffer) table
         → Walked p given past node choices best buffer (record { found = true; set = node .must; cost = c }) buffer′
     unfolding K
     kept-new s w b buffer′ e =

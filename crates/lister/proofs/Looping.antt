@@ -20,6 +20,7 @@ use Rattle.lister.specs.Steps.{Only, Halved, Due}
 use Rattle.lister.specs.Walks.{Ready, Walked, Narrowed}
 use Rattle.lister.proofs.Complete.{Slotted}
 use Rattle.lister.proofs.Falls.{remaining, remaining-fewer, remaining-less, remaining-forced}
+use Rattle.lister.proofs.Narrowing.{ready-more}
 use Rattle.lister.proofs.Going.{Going, going-start, going-end, going-spent, going-forced, going-split, going-narrowed, going-dead}
 
 pub record Looping (p : Problem) (given : Best) (past : List ℕ) (node₀ : Node) (choices₀ : List ℕ) (best₀ : Best) (plan₀ : List ℕ) (node : Node) (choices : List ℕ) (best : Best)
@@ -51,26 +52,12 @@ module _ (p : Problem) (given : Best) (past : List ℕ) where
 
   module _ (node₀ : Node) (choices₀ : List ℕ) (best₀ : Best) (plan₀ : List ℕ) (node : Node) (choices : List ℕ) (best : Best) (plan : List ℕ)
       (l : Looping p given past node₀ choices₀ best₀ plan₀ node choices best plan) where
-    -- a node of the same plans, with as much or more in must
-    ready-at : (node′ : Node) → ((e : ℕ) → Member (node .must) e → Member (node′ .must) e) → Ready p given past node′ best plan
-    ready-at node′ more =
-        let r = l .ready in
-        record {
-          entries = r .entries;
-          slots = r .slots;
-          past-sized = r .past-sized;
-          plan-sized = r .plan-sized;
-          given-costed = r .given-costed;
-          best-costed = r .best-costed;
-          rooted = more (p .root) (r .rooted);
-        }
-
     pub loop-narrowed : (node′ : Node) (choices′ : List ℕ) → Narrowed p given past best plan node choices node′ choices′
         → Looping p given past node₀ choices₀ best₀ plan₀ node′ choices′ best plan
     loop-narrowed node′ choices′ n =
         record {
           going = going-narrowed p given past (limitOf best₀ plan₀) (node₀ .must) (node₀ .ban) choices₀ best plan node node′ choices choices′ n (l .going);
-          ready = ready-at node′ (n .fewer .more);
+          ready = ready-more (l .ready) (n .fewer .more);
           written = l .written;
           sized = n .fewer .sized ∙ l .sized;
           falling = omega (arith, remaining-fewer (n .fewer), l .falling);
@@ -115,7 +102,7 @@ module _ (p : Problem) (given : Best) (past : List ℕ) where
           let its : Member (getD choices s 0) e = only e .1 refl in
           let less : remaining (node′ .must) choices < remaining (node .must) choices =
           remaining-forced (node .must) (node′ .must) e choices more (member-below 64 (getD choices s 0) e small its) (rw m (join-members (node .must) (getD choices s 0) e .1 (inr its))) lacks in (
-            record { going = rw (m, b) g; ready = ready-at node′ more; written = l .written; sized = l .sized; falling = omega (arith, less, l .falling) },
+            record { going = rw (m, b) g; ready = ready-more (l .ready) more; written = l .written; sized = l .sized; falling = omega (arith, less, l .falling) },
             less,
           )
 

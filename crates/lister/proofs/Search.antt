@@ -9,14 +9,16 @@ use lib.Seq.{getD-set-same, getD-set-other}
 use Rattle.bitset.specs.Bits.{Member}
 use Rattle.pacsolve.specs.Problem.{Problem}
 use Rattle.pacsolve.specs.Plan.{Plan, chosen, MemberOf}
-use Rattle.pacsolve.specs.Order.{Precedes}
+use Rattle.pacsolve.specs.Cost.{cost, numbers}
+use Rattle.pacsolve.specs.Order.{Precedes, cheaper, tied}
 use Rattle.pacsolve.specs.Listing.{Asked}
-use Rattle.pacsolve.proofs.Order.{precedes-trans}
-use Rattle.lister.specs.Search.{Limit, no-limit, before, Below, Inside, Tightened, same, better}
+use Rattle.pacsolve.proofs.Order.{earlier-trans, precedes-trans}
+use Rattle.lister.specs.Search.{Limit, under, before, Below, Inside, Tightened, same, better}
 
 module _ (p : Problem) (q : Asked) where
   below-earlier : (lim : Limit) (P Q : Plan) → Precedes p P Q → Below p lim Q → Below p lim P
-  below-earlier no-limit P Q h b = tt
+  below-earlier (under c) P Q (cheaper h) b = earlier-trans (numbers (cost p (P .set))) (numbers (cost p (Q .set))) (numbers c) h b
+  below-earlier (under c) P Q (tied e t) b = rw e b
   below-earlier (before R) P Q h b = precedes-trans p h b
 
   -- what lies below a tightened limit lies below the one before

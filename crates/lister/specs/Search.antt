@@ -8,18 +8,19 @@ use lib.ListN.{getD}
 use Rattle.bitset.specs.Bits.{Member}
 use Rattle.pacsolve.specs.Problem.{Problem}
 use Rattle.pacsolve.specs.Plan.{Plan, plan, chosen, MemberOf}
-use Rattle.pacsolve.specs.Cost.{cost}
-use Rattle.pacsolve.specs.Order.{Precedes}
+use Rattle.pacsolve.specs.declared.Cost.{Cost}
+use Rattle.pacsolve.specs.Cost.{cost, numbers}
+use Rattle.pacsolve.specs.Order.{Earlier, Precedes}
 use Rattle.pacsolve.specs.Listing.{Good, Asked, from-the-start, after, Wanted}
 use Rattle.lister.specs.declared.Best.{Best}
 
--- what is sought lies before the best plan found so far, if one is
+-- what is sought costs less than the bound of the round or, once a plan is found, lies before it
 pub data Limit : Type 0 where
-  no-limit : Limit
+  under : Cost → Limit
   before : Plan → Limit
 
 abbrev pub Below : Problem → Limit → Plan → Type 0
-Below p no-limit P = Unit {0}
+Below p (under c) P = Earlier (numbers (cost p (P .set))) (numbers c)
 Below p (before Q) P = Precedes p P Q
 
 pub record Inside (p : Problem) (must ban : ℕ) (choices : List ℕ) (P : Plan) : Type 0 where
@@ -47,13 +48,13 @@ pub record Searched (p : Problem) (q : Asked) (lim : Limit) (must ban : ℕ) (ch
   pub tightened : Tightened p q lim lim′
   pub spent : Spent p q lim′ must ban choices
 
--- the limit that a best plan and its table are
-abbrev pub limitIf : Bool → Plan → Limit
-limitIf true P = before P
-limitIf false P = no-limit
+-- the limit that a best plan and its table are, or the bound where none is found
+abbrev pub limitIf : Bool → Cost → Plan → Limit
+limitIf true c P = before P
+limitIf false c P = under c
 
 abbrev pub limitOf : Best → List ℕ → Limit
-limitOf b table = limitIf (b .found) (plan (b .set) table)
+limitOf b table = limitIf (b .found) (b .cost) (plan (b .set) table)
 
 -- what is asked for, by a plan that was given or not
 abbrev pub askedIf : Bool → Plan → Asked

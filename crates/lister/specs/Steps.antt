@@ -26,6 +26,11 @@ abbrev pub AheadIf : Bool → Cost → List ℕ → Cost → List ℕ → Type 0
 AheadIf true a s b t = Ahead a s b t
 AheadIf false a s b t = Unit {0}
 
+-- before a plan with cost b and table t, where there is one, and else below the cost b
+abbrev pub Sooner : Bool → Cost → List ℕ → Cost → List ℕ → Type 0
+Sooner true a s b t = Ahead a s b t
+Sooner false a s b t = Earlier (numbers a) (numbers b)
+
 -- e and nothing else is a member
 abbrev pub Only : ℕ → ℕ → Type 0
 Only set e = (d : ℕ) → Member set d ↔ (d ≡ e)

@@ -2,6 +2,7 @@
 use crate::Best;
 use crate::Node;
 use crate::order::ahead_if;
+use crate::order::sooner;
 use crate::table::table_of;
 use catalogue::Settings;
 use plan::Checked;
@@ -51,7 +52,7 @@ pub fn keep(
     if !ahead_if(given.found, given.cost, past, cost, candidate) {
         return best;
     }
-    if !ahead_if(best.found, cost, candidate, best.cost, plan) {
+    if !sooner(best.found, cost, candidate, best.cost, plan) {
         return best;
     }
     store(candidate, plan);

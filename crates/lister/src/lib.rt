@@ -1,15 +1,24 @@
 // What the calls of the listing answer, and the record that each turn moves forward (document 01, "Calls and what they give back").
+mod afford;
 mod ask;
+mod banned;
 pub mod by_value;
+mod ceiling;
+mod clash;
+mod clash_ban;
+mod forced_arrows;
+mod grounded;
 mod holds;
 mod keep;
 mod least;
 mod narrow;
 mod order;
 mod pick_slot;
+mod rank;
 mod settle;
 mod table;
 mod walk;
+mod within_reach;
 
 use basis::Refusal;
 use catalogue::Settings;
@@ -36,7 +45,7 @@ pub struct Turned {
     pub listing: ListingRecord,
 }
 
-// A plan's set and cost, where there is a plan; its table stands beside it in a buffer.
+// A plan's set and cost, where there is a plan; its table stands beside it in a buffer. Where there is none yet, cost is the bound that plans are looked for below.
 pub struct Best {
     pub found: bool,
     pub set: u64,

@@ -3,7 +3,7 @@ use pacsolve::Cost;
 ghost use Rattle.basis.specs.Tests.{Decides};
 ghost use Rattle.pacsolve.specs.Cost.{numbers};
 ghost use Rattle.pacsolve.specs.Order.{Earlier};
-ghost use Rattle.lister.specs.Steps.{Ahead, AheadIf};
+ghost use Rattle.lister.specs.Steps.{Ahead, AheadIf, Sooner};
 
 // A table that ends before the two differ is not earlier, and nothing is earlier than it.
 pub fn earlier(a: &[u8], b: &[u8]) -> bool
@@ -58,4 +58,14 @@ pub fn ahead_if(on: bool, a: Cost, s: &[u8], b: Cost, t: &[u8]) -> bool
         return ahead(a, s, b, t);
     }
     true
+}
+
+// Before a plan, where one is found; else below a cost.
+pub fn sooner(found: bool, a: Cost, s: &[u8], b: Cost, t: &[u8]) -> bool
+    ensures { λ r. ⌜ Decides r (Sooner found a (now (s .entry)) b (now (t .entry))) ⌝ }
+{
+    if found {
+        return ahead(a, s, b, t);
+    }
+    cheaper(a, b)
 }

@@ -6,11 +6,13 @@ use crate::keep::keep;
 use crate::narrow::narrow;
 use crate::pick_slot::pick;
 use catalogue::Settings;
+use price::Scale;
 ghost use lib.Bits.{bitOr};
 ghost use lib.ListN.{length};
 ghost use mathlib.Core.Path.{_≡_};
 ghost use Prim.Native.Nat.{ℕ, _^_, _<_};
 ghost use Rattle.catalogue.specs.Survey.{tabled};
+ghost use Rattle.lister.specs.Facts.{Facts};
 ghost use Rattle.lister.specs.Steps.{Halved};
 ghost use Rattle.lister.specs.Walks.{Ready, Walked};
 
@@ -51,13 +53,18 @@ pub fn walk(
     choices: &[u64; 256],
     best: Best,
     plan: &mut [u8],
+    clash: &[u64; 64],
+    alike: &[u64; 64],
+    base: &[u64; 64],
+    scale: Scale,
 ) -> Best
-    requires { ⌜ Ready (tabled (now entries) (now slots) settings (now objectives) (now fits)) given (now past) node best (now plan) ⌝ ∗ ⌜ length (now choices) ≡ 256 ⌝ }
+    requires { ⌜ Ready (tabled (now entries) (now slots) settings (now objectives) (now fits)) given (now past) node best (now plan) ⌝ ∗ ⌜ (length (now choices) ≡ 256) × Facts (now entries) (now objectives) (settings .mode) (now clash) (now alike) (now base) scale ⌝ }
     ensures { λ r. ⌜ Walked (tabled (now (entries .entry)) (now (slots .entry)) settings (now (objectives .entry)) (now (fits .entry))) given (now (past .entry)) node (now (choices .entry)) best (now (plan .entry)) r (now (plan .exit)) ⌝ }
 {
     let mut at = node;
     let mut left = *choices;
     let mut found = best;
+    let mut price = [0u64; 64];
     loop {
         at = narrow(
             entries,
@@ -71,13 +78,18 @@ pub fn walk(
             plan,
             at,
             &mut left,
+            clash,
+            alike,
+            base,
+            scale,
+            &mut price,
         );
         let alive = at.alive;
         if !alive {
             return found;
         }
         let must = at.must;
-        match pick(slots, must, &left) {
+        match pick(slots, must, &left, &price) {
             Pick::Dead => return found,
             Pick::Complete => return keep(
                 entries,
@@ -110,6 +122,10 @@ pub fn walk(
                     &left,
                     found,
                     plan,
+                    clash,
+                    alike,
+                    base,
+                    scale,
                 );
                 left[s] = halves.rest;
             }

@@ -2,6 +2,7 @@ pub mod Order
 pub mod Fixed
 pub mod Listing
 pub mod Walks
+pub mod Descent
 pub mod Conditions
 pub mod Sorted
 pub mod Enumerated

@@ -1,9 +1,7 @@
--- The laws behind a check of a plan: tests and answers, walks through a set, what is reached, closed rows, totals, the first fault, and demand 2.
+-- The laws behind a check of a plan: tests, walks through a set, what is reached, closed rows, totals and the first fault.
 pub mod Amounts
-pub mod Answers
 pub mod Carried
 pub mod Closing
-pub mod Demand2
 pub mod Faults
 pub mod MemberWalk
 pub mod Outcome

@@ -3,10 +3,10 @@ use mathlib.Core.Path.{_≡_, refl, sym, ap, _∙_}
 use mathlib.Core.Logic.{_⊎_, inl, inr}
 use Prim.Native.Nat.{ℕ, zero, suc, _+_, _*_, _^_, _≤_, _<_, min}
 use native.Mathlib.Decide.{ℕ-discrete, decLe}
-use native.Mathlib.Nat.{zero-mul, one-mul, zero-add, suc-mul}
+use native.Mathlib.Nat.{zero-mul, one-mul, zero-add}
 use native.Mathlib.Omega.{arith}
 use Rattle.basis.specs.Sum.{sum}
-use Rattle.basis.proofs.Sums.{sum-changed, sum-zero, term-le}
+use Rattle.basis.proofs.Sums.{sum-bound, sum-changed, sum-zero, term-le}
 use Rattle.bitset.specs.Bits.{bit, Member, count, Lowest}
 use Rattle.bitset.specs.Changes.{Without}
 use Rattle.bitset.specs.Search.{LowestOr64}
@@ -26,11 +26,6 @@ bit-same a b e f g = go (bit-cases a e) (bit-cases b e)
 abbrev pub over : (ℕ → ℕ) → ℕ → ℕ → ℕ
 over g set n = sum (λ e. bit set e * g e) n
 
--- a sum of terms of at most k
-sum-bound : (f : ℕ → ℕ) (n k : ℕ) → ((e : ℕ) → f e ≤ k) → sum f n ≤ n * k
-sum-bound f zero k h = omega arith
-sum-bound f (suc n) k h = omega (arith, sum-bound f n k h, h n, suc-mul n k)
-
 bit-times : (set e x : ℕ) → bit set e * x ≤ x
 bit-times set e x = go (bit-cases set e)
   where
@@ -42,7 +37,7 @@ pub over-bound : (g : ℕ → ℕ) (set n k : ℕ) → ((e : ℕ) → g e ≤ k)
 over-bound g set n k h = sum-bound (λ e. bit set e * g e) n k (λ e. omega (arith, bit-times set e (g e), h e))
 
 -- terms that are 0 from m on add nothing
-sum-further : (f : ℕ → ℕ) (m n : ℕ) → m ≤ n → ((e : ℕ) → m ≤ e → f e ≡ 0) → sum f n ≡ sum f m
+pub sum-further : (f : ℕ → ℕ) (m n : ℕ) → m ≤ n → ((e : ℕ) → m ≤ e → f e ≡ 0) → sum f n ≡ sum f m
 sum-further f m zero h z = let e : m ≡ 0 = omega arith in rw e refl
 sum-further f m (suc n) h z = go (ℕ-discrete m (suc n)) (λ l. sum-further f m n l z)
   where

@@ -24,7 +24,7 @@ use Rattle.plan.proofs.Closing.{past-end}
 use Rattle.plan.proofs.Reaching.{walk-member}
 
 -- fresh rows hold nothing
-fresh-none : (d e : ℕ) → ¬ Holds (replicate 64 0) d e
+pub fresh-none : (d e : ℕ) → ¬ Holds (replicate 64 0) d e
 fresh-none d e m = go (decLt d 64)
   where
     go : Dec (d < 64) → ⊥

@@ -23,7 +23,7 @@ fn nameable(entries: &[u16]) -> u32
 }
 
 // The sum of the members' weights.
-pub fn weight(entries: &[u16], set: u64) -> u32
+fn weight(entries: &[u16], set: u64) -> u32
     ensures { λ r. ⌜ ((slots objectives fits : List ℕ) (settings : Setting) → r ≡ weightOf (tabled (now (entries .entry)) slots settings objectives fits) set) ⌝ }
 {
     let n = nameable(entries);
@@ -39,7 +39,7 @@ pub fn weight(entries: &[u16], set: u64) -> u32
 }
 
 // The members, counted as the ones in the set, less the root.
-pub fn dependencies(set: u64) -> u32
+fn dependencies(set: u64) -> u32
     ensures { λ r. ⌜ r ≡ count set - 1 ⌝ }
 {
     let members = bitset::count(set);
@@ -69,7 +69,7 @@ fn repeated(entries: &[u16], set: u64, e: u32) -> u32
 }
 
 // For each package with members their number less one, summed: each member with an earlier one of its package counts.
-pub fn duplicates(entries: &[u16], set: u64) -> u32
+fn duplicates(entries: &[u16], set: u64) -> u32
     ensures { λ r. ⌜ ((slots objectives fits : List ℕ) (settings : Setting) → r ≡ duplicatesOf (tabled (now (entries .entry)) slots settings objectives fits) set) ⌝ }
 {
     let n = nameable(entries);
@@ -85,7 +85,7 @@ pub fn duplicates(entries: &[u16], set: u64) -> u32
 }
 
 // The cost by one objective's code, and 0 for an unknown one.
-pub fn amount(code: u8, entries: &[u16], set: u64) -> u32
+fn amount(code: u8, entries: &[u16], set: u64) -> u32
     ensures { λ r. ⌜ ((slots objectives fits : List ℕ) (settings : Setting) → r ≡ amountOf (tabled (now (entries .entry)) slots settings objectives fits) set code) ⌝ }
 {
     if code == 0 {

@@ -38,7 +38,7 @@ fn through(row: u64, k: u32, via: u64) -> u64
 }
 
 // Takes up, in every row, what is reached by way of k.
-fn pass(rows: &mut [u64; 64], k: usize)
+pub fn pass(rows: &mut [u64; 64], k: usize)
     requires { ⌜ (length (now rows) ≡ 64) × (k < 64) ⌝ }
     ensures { λ _. ⌜ Passes k (now (rows .entry)) (now (rows .exit)) ⌝ }
 {

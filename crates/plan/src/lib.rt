@@ -1,12 +1,12 @@
 // A check of a plan: the six conditions, each by a function of its own, the cost, and what a check answers (document 01, "What a plan is", "Calls and what
 // they give back").
-pub mod conditions;
+mod conditions;
 pub mod costs;
 pub mod cycles;
-pub mod fields;
+mod fields;
 pub mod judging;
 pub mod packages;
-pub mod walks;
+mod walks;
 
 use basis::Refusal;
 use catalogue::Settings;

@@ -11,12 +11,12 @@ ghost use Rattle.pacsolve.specs.Plan.{plan, Consistent};
 ghost use Rattle.catalogue.specs.Survey.{tabled};
 ghost use Rattle.plan.specs.Pairs.{Beside};
 
-const CARGO: u8 = 1;
+pub const CARGO: u8 = 1;
 
-const PIP: u8 = 2;
+pub const PIP: u8 = 2;
 
 // Whether d and e are of different packages, or may stand together. npm: always. cargo: their majors differ. pip: never.
-fn beside(entries: &[u16], mode: u8, d: u32, e: u32) -> bool
+pub fn beside(entries: &[u16], mode: u8, d: u32, e: u32) -> bool
     ensures { λ r. ⌜ Decides r (Beside (now (entries .entry)) mode d e) ⌝ }
 {
     if entry_field(entries, d as usize, fields::PACKAGE)

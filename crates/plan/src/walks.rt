@@ -39,7 +39,7 @@ fn round(slots: &[u16], set: u64, table: &[u8], reach: u64) -> u64
 }
 
 // All that is reached from the root, where that is a member.
-pub fn grown(slots: &[u16], settings: Settings, set: u64, table: &[u8]) -> u64
+fn grown(slots: &[u16], settings: Settings, set: u64, table: &[u8]) -> u64
     ensures { λ r. ⌜ ((entries objectives fits : List ℕ) → Grown (tabled entries (now (slots .entry)) settings objectives fits) (plan set (now (table .entry))) r) ⌝ }
 {
     let root = settings.root as u32;

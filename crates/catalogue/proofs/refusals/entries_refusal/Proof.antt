@@ -1,7 +1,7 @@
 -- `catalogue::refusals::entries_refusal` meets its contract: each row in turn; entries that are not misshapen are at most 64.
+use Rattle.basis.proofs.Answers.{fails}
 use Rattle.catalogue.proofs.Order.{none, first, next, at-most-64}
 use Rattle.catalogue.specs.Parts.{entriesAlone}
-use Rattle.catalogue.proofs.Searches.{denied}
 use borrow.Author.Needs.{needs}
 use Rattle.catalogue.proofs.refusals.entries_refusal.Statement.{statement}
 use Rattle.catalogue.proofs.refusals.entries_refusal.Tie as tie
@@ -13,7 +13,7 @@ returns : tie.Need-returns
 returns c = first tt (c .before .entries-misshapen .ensures) (c .if1 .taken)
 
 entry-twice-requires : tie.Need-entry-twice-requires
-entry-twice-requires c κs = at-most-64 (entriesAlone (c .before .before .before .args .entries .now)) (denied (c .before .entries-misshapen .ensures) (c .if1 .left))
+entry-twice-requires c κs = at-most-64 (entriesAlone (c .before .before .before .args .entries .now)) (fails (c .before .entries-misshapen .ensures) (c .if1 .left))
 
 returns-2 : tie.Need-returns-2
 returns-2 c =

@@ -7,9 +7,9 @@ use lib.ListN.{getD}
 use native.Mathlib.Numerals.{add-one}
 use native.Mathlib.Omega.{arith}
 use borrow.Author.Count.{below-more}
+use Rattle.basis.proofs.Answers.{answer-yes, answer-no}
 use Rattle.catalogue.specs.Tables.{ownerOf}
 use Rattle.catalogue.specs.Parts.{slotsAlone}
-use Rattle.catalogue.proofs.Searches.{holds, fails}
 use Rattle.catalogue.proofs.slots.owners_fall.Statement.{statement}
 use Rattle.catalogue.proofs.slots.owners_fall.Tie as tie
 
@@ -42,7 +42,7 @@ returns : tie.Need-returns Inv-loop μ-loop
 returns c =
     let numbers = c .before .before .before .before .before .before .args .slots .now in
     let s = c .before .before .before .before .loop .s in
-    holds (s, omega arith, (omega arith, omega (arith, next-owner numbers s)))
+    answer-yes (s, omega arith, (omega arith, omega (arith, next-owner numbers s)))
 
 loop-less : tie.Need-loop-less Inv-loop μ-loop
 loop-less c = search needs
@@ -54,7 +54,7 @@ loop-again c =
     (search needs, below-more _ s (c .before .before .before .before .loop .inv .1) (λ h. omega (arith, next-owner numbers s)))
 
 returns-2 : tie.Need-returns-2 Inv-loop μ-loop
-returns-2 c = fails (λ x. c .before .loop .inv .1 (x .0) (omega (arith, x .2 .0)) (x .2 .1))
+returns-2 c = answer-no (λ x. c .before .loop .inv .1 (x .0) (omega (arith, x .2 .0)) (x .2 .1))
 
 pub owners-fall-spec : {M : Type 1} → statement M
 owners-fall-spec =

@@ -17,6 +17,7 @@ use Rattle.lister.proofs.keep.keep.Reads as reads
 use Rattle.lister.proofs.keep.keep.Lts as lts
 use Rattle.lister.proofs.keep.store.Reads as store-reads
 use Rattle.lister.proofs.order.ahead_if.Reads as ahead-if-reads
+use Rattle.lister.proofs.order.sooner.Reads as sooner-reads
 use Rattle.lister.proofs.table.table_of.Reads as table-of-reads
 use Rattle.plan.proofs.judging.judge.Reads as judge-reads
 
@@ -53,8 +54,8 @@ returns-2 c =
     kept-unwanted _ _ (tabled-slotted (c .before .before .before .before .before .before .before .before .before .before .before .before .before .args .entries .now) (c .before .before .before .before .before .before .before .before .before .before .before .before .before .args .slots .now) (c .before .before .before .before .before .before .before .before .before .before .before .before .before .args .settings) (c .before .before .before .before .before .before .before .before .before .before .before .before .before .args .objectives .now) (c .before .before .before .before .before .before .before .before .before .before .before .before .before .args .fits .now)) _ _ _ _ _ _ (c .before .before .before .before .before .before .before .before .before .before .before .before .before .pre .0) (c .before .before .before .before .before .before .before .before .before .before .before .before .before .pre .1) (c .before .before .before .before .before .before .before .table-of .result) (c .before .before .before .before .before .before .before .table-of .ensures)
     (good-length (eInt w8) 256 (c .before .before .before .before .before .before .before .table-of .result) _ (c .before .before .before .before .before .before .before .table-of .ok)) _ (j .1) (said-no (c .before .ahead-if .ensures) (not-true _ (c .if1 .taken)))
 
-ahead-if-requires-2 : tie.Need-ahead-if-requires-2
-ahead-if-requires-2 c κs = search needs
+sooner-requires : tie.Need-sooner-requires
+sooner-requires c κs = search needs
 
 same-length : tie.Need-same-length
 same-length c = search needs
@@ -63,7 +64,7 @@ returns-3 : tie.Need-returns-3
 returns-3 c =
     let j = judged-sound _ _ _ (c .before .before .before .before .before .before .before .before .judge .result) (c .before .before .before .before .before .before .before .before .judge .ensures) _ (c .before .before .before .before .before .before .judged .given .1) in
     kept-later _ _ (tabled-slotted (c .before .before .before .before .before .before .before .before .before .before .before .before .before .before .before .before .args .entries .now) (c .before .before .before .before .before .before .before .before .before .before .before .before .before .before .before .before .args .slots .now) (c .before .before .before .before .before .before .before .before .before .before .before .before .before .before .before .before .args .settings) (c .before .before .before .before .before .before .before .before .before .before .before .before .before .before .before .before .args .objectives .now) (c .before .before .before .before .before .before .before .before .before .before .before .before .before .before .before .before .args .fits .now)) _ _ _ _ _ _ (c .before .before .before .before .before .before .before .before .before .before .before .before .before .before .before .before .pre .0) (c .before .before .before .before .before .before .before .before .before .before .before .before .before .before .before .before .pre .1) (c .before .before .before .before .before .before .before .before .before .before .table-of .result) (c .before .before .before .before .before .before .before .before .before .before .table-of .ensures)
-    (good-length (eInt w8) 256 (c .before .before .before .before .before .before .before .before .before .before .table-of .result) _ (c .before .before .before .before .before .before .before .before .before .before .table-of .ok)) _ (j .1) (said-no (c .before .ahead-if2 .ensures) (not-true _ (c .if2 .taken)))
+    (good-length (eInt w8) 256 (c .before .before .before .before .before .before .before .before .before .before .table-of .result) _ (c .before .before .before .before .before .before .before .before .before .before .table-of .ok)) _ (j .1) (said-no (c .before .sooner .ensures) (not-true _ (c .if2 .taken)))
 
 store-requires : tie.Need-store-requires
 store-requires c κs =
@@ -78,7 +79,7 @@ returns-4 c =
     let j = judged-sound _ _ _ (c .before .before .before .before .before .before .before .before .before .before .before .before .judge .result) (c .before .before .before .before .before .before .before .before .before .before .before .before .judge .ensures) _ (c .before .before .before .before .before .before .before .before .before .before .judged .given .1) in
     kept-new _ _ (tabled-slotted (c .before .before .before .before .before .before .before .before .before .before .before .before .before .before .before .before .before .before .before .before .args .entries .now) (c .before .before .before .before .before .before .before .before .before .before .before .before .before .before .before .before .before .before .before .before .args .slots .now) (c .before .before .before .before .before .before .before .before .before .before .before .before .before .before .before .before .before .before .before .before .args .settings) (c .before .before .before .before .before .before .before .before .before .before .before .before .before .before .before .before .before .before .before .before .args .objectives .now) (c .before .before .before .before .before .before .before .before .before .before .before .before .before .before .before .before .before .before .before .before .args .fits .now)) _ _ _ _ _ _ (c .before .before .before .before .before .before .before .before .before .before .before .before .before .before .before .before .before .before .before .before .pre .0) (c .before .before .before .before .before .before .before .before .before .before .before .before .before .before .before .before .before .before .before .before .pre .1) (c .before .before .before .before .before .before .before .before .before .before .before .before .before .before .table-of .result) (c .before .before .before .before .before .before .before .before .before .before .before .before .before .before .table-of .ensures)
     (good-length (eInt w8) 256 (c .before .before .before .before .before .before .before .before .before .before .before .before .before .before .table-of .result) _ (c .before .before .before .before .before .before .before .before .before .before .before .before .before .before .table-of .ok)) _ (j .1) (j .0) (said-yes (c .before .before .before .before .before .before .before .before .ahead-if .ensures) (not-false _ (c .before .before .before .before .before .before .before .if1 .left)))
-    (said-yes (c .before .before .before .before .before .ahead-if2 .ensures) (not-false _ (c .before .before .before .before .if2 .left))) _ (c .before .before .store .ensures)
+    (said-yes (c .before .before .before .before .before .sooner .ensures) (not-false _ (c .before .before .before .before .if2 .left))) _ (c .before .before .store .ensures)
 
 pub keep-spec : {M : Type 1} → statement M
 keep-spec =
@@ -92,7 +93,7 @@ keep-spec =
     returns
     ahead-if-requires
     returns-2
-    ahead-if-requires-2
+    sooner-requires
     same-length
     returns-3
     store-requires

@@ -1,25 +1,23 @@
--- `lister::pick_slot::pick` meets its contract: there is nothing to do at the slots before `s`, so the first other slot is picked; where there is none, all are
--- complete.
+-- `lister::pick_slot::pick` meets its contract: of the slots before `s` an open one leads, or there is nothing to do at any of them.
 use mathlib.Core.Path.{_≡_, refl}
-use Prim.Native.Nat.{ℕ, _≤_, _<_, _-_, _*_}
+use mathlib.Core.Logic.{⊎-elim}
+use Prim.Native.Nat.{ℕ, _≤_, _-_, _*_}
 use native.Mathlib.Omega.{arith}
 use borrow.Author.Needs.{needs}
-use borrow.Author.Count.{below-none, below-more}
-use lib.ListN.{getD}
 use Rattle.lister.specs.declared.pick_slot.Standing.the-variants.{Open, Narrow, Stuck}
-use Rattle.lister.specs.Steps.{ownerIn, complete}
-use Rattle.lister.proofs.Slots.{Quiet, quiet, picked-at}
+use Rattle.lister.proofs.Leading.{Led, led-none, led-quiet, led-open, led-split, led-complete}
+use Rattle.lister.proofs.Slots.{quiet, picked-at}
 use Rattle.lister.proofs.pick_slot.pick.Statement.{statement}
 use Rattle.lister.proofs.pick_slot.pick.Tie as tie
 
 abbrev Inv-loop : tie.InvT-loop
-Inv-loop slots must choices count s₀ s = (s ≤ count) × ((k : ℕ) → k < s → Quiet must (ownerIn slots k) (getD choices k 0))
+Inv-loop slots must choices price count best₀ s₀ best s = (s ≤ count) × Led slots must choices best s
 
 abbrev μ-loop : tie.MeasureT-loop
-μ-loop slots must choices count s₀ s = count - s
+μ-loop slots must choices price count best₀ s₀ best s = count - s
 
 loop-holds : tie.Need-loop-holds Inv-loop μ-loop
-loop-holds c = (search needs, below-none _)
+loop-holds c = (search needs, led-none _ _ _ _ refl)
 
 mul-look-at : tie.Need-mul-look-at Inv-loop μ-loop
 mul-look-at c = omega arith
@@ -48,24 +46,31 @@ enum-told c = search needs
 enum-told-2 : tie.Need-enum-told-2 Inv-loop μ-loop
 enum-told-2 c = search needs
 
-returns : tie.Need-returns Inv-loop μ-loop
-returns c =
-    picked-at _ _ _ (c .before .before .before .before .before .loop-test .taken) (c .before .before .look-at .ensures) Open (c .enum-told2 .given .1)
-    (λ e. let z : _≡_ {A = ℕ} 0 1 = cc in omega arith)
+mul-rank-of : tie.Need-mul-rank-of Inv-loop μ-loop
+mul-rank-of c = omega arith
+
+element-copy-out-rank-of : tie.Need-element-copy-out-rank-of Inv-loop μ-loop
+element-copy-out-rank-of c = omega arith
+
+rank-of-requires : tie.Need-rank-of-requires Inv-loop μ-loop
+rank-of-requires c κs = search needs
+
+leading-requires : tie.Need-leading-requires Inv-loop μ-loop
+leading-requires c κs = search needs
 
 enum-told-3 : tie.Need-enum-told-3 Inv-loop μ-loop
 enum-told-3 c = search needs
 
-returns-2 : tie.Need-returns-2 Inv-loop μ-loop
-returns-2 c =
+returns : tie.Need-returns Inv-loop μ-loop
+returns c =
     picked-at _ _ _ (c .before .before .before .before .before .loop-test .taken) (c .before .before .look-at .ensures) Narrow (c .enum-told3 .given .1)
     (λ e. let z : _≡_ {A = ℕ} 0 1 = cc in omega arith)
 
 enum-told-4 : tie.Need-enum-told-4 Inv-loop μ-loop
 enum-told-4 c = search needs
 
-returns-3 : tie.Need-returns-3 Inv-loop μ-loop
-returns-3 c =
+returns-2 : tie.Need-returns-2 Inv-loop μ-loop
+returns-2 c =
     picked-at _ _ _ (c .before .before .before .before .before .loop-test .taken) (c .before .before .look-at .ensures) Stuck (c .enum-told4 .given .1)
     (λ e. let z : _≡_ {A = ℕ} 0 1 = cc in omega arith)
 
@@ -77,10 +82,25 @@ loop-less c = omega arith
 
 loop-again : tie.Need-loop-again Inv-loop μ-loop
 loop-again c =
-    (search needs, below-more _ _ (c .before .before .before .before .before .before .loop .inv .1) (quiet (c .before .before .look-at .ensures) (c .enum-told .given .1)))
+    let stands = c .before .look-at .ensures in
+    let at = c .before .before .before .before in
+    let led = at .before .loop .inv .1 in (
+      omega arith,
+      ⊎-elim
+          (λ w. rw (w .2) (led-quiet _ _ _ led (quiet stands (w .1 .given .1))))
+          (λ w.
+          rw (w .5)
+          (led-open _ _ _ led
+          (picked-at _ _ _ (at .loop-test .taken) stands Open (w .1 .given .1) (λ e. let z : _≡_ {A = ℕ} 0 1 = cc in omega arith))
+          (w .4 .ensures)))
+          (c .match .came),
+    )
+
+returns-3 : tie.Need-returns-3 Inv-loop μ-loop
+returns-3 c = led-split _ _ _ (c .before .before .loop .inv .1) (c .if1 .taken)
 
 returns-4 : tie.Need-returns-4 Inv-loop μ-loop
-returns-4 c = complete (λ s d. c .before .loop .inv .1 s (omega (arith, d .there)) (d .owned)) refl
+returns-4 c = led-complete _ _ _ (c .before .before .loop .inv .1) (c .if1 .left) (c .before .loop-test .left)
 
 pub pick-spec : {M : Type 1} → statement M
 pick-spec =
@@ -98,12 +118,16 @@ pick-spec =
     look-at-requires
     enum-told
     enum-told-2
-    returns
+    mul-rank-of
+    element-copy-out-rank-of
+    rank-of-requires
+    leading-requires
     enum-told-3
-    returns-2
+    returns
     enum-told-4
-    returns-3
+    returns-2
     add-s
     loop-less
     loop-again
+    returns-3
     returns-4)

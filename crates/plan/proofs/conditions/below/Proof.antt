@@ -6,7 +6,7 @@ use borrow.Author.Needs.{needs}
 use lib.Pow.{pow-pos}
 use Rattle.basis.proofs.Decide.{decides-by, decides-eq}
 use Rattle.bitset.proofs.Sets.{member-below, below-by-members}
-use Rattle.plan.proofs.Answers.{answer-yes}
+use Rattle.basis.proofs.Answers.{answer-yes}
 use Rattle.plan.proofs.conditions.below.Statement.{statement}
 use Rattle.plan.proofs.conditions.below.Tie as tie
 

@@ -2,7 +2,7 @@
 use native.Mathlib.Omega.{arith}
 use borrow.Author.Needs.{needs}
 use Rattle.basis.proofs.Decide.{decides-by}
-use Rattle.plan.proofs.Answers.{denied, granted, answer-yes, answer-no}
+use Rattle.basis.proofs.Answers.{denied, granted, answer-yes, answer-no}
 use Rattle.plan.proofs.conditions.fitting_at.Statement.{statement}
 use Rattle.plan.proofs.conditions.fitting_at.Tie as tie
 

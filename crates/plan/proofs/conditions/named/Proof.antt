@@ -5,7 +5,7 @@ use native.Mathlib.Omega.{arith}
 use lib.ListN.{getD}
 use borrow.Author.Count.{below-more}
 use Rattle.plan.specs.Slots.{NamedAt}
-use Rattle.plan.proofs.Answers.{denied, granted, answer-yes, answer-no}
+use Rattle.basis.proofs.Answers.{denied, granted, answer-yes, answer-no}
 use Rattle.plan.proofs.conditions.named.Statement.{statement}
 use Rattle.plan.proofs.conditions.named.Tie as tie
 use borrow.Author.Needs.{needs}

@@ -1,7 +1,7 @@
 -- `plan::conditions::named_at` meets its contract: the slot's owner is a member or not, and each case has its test.
 use borrow.Author.Needs.{needs}
 use Rattle.basis.proofs.Decide.{decides-eq}
-use Rattle.plan.proofs.Answers.{holds, fails}
+use Rattle.basis.proofs.Answers.{holds, fails}
 use Rattle.plan.proofs.SlotTests.{named-of-member, named-of-other}
 use Rattle.plan.proofs.conditions.named_at.Statement.{statement}
 use Rattle.plan.proofs.conditions.named_at.Tie as tie

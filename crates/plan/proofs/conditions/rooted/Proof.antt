@@ -1,7 +1,7 @@
 -- `plan::conditions::rooted` meets its contract: its two tests are the condition's two parts.
 use borrow.Author.Needs.{needs}
 use Rattle.basis.proofs.Decide.{decides-by}
-use Rattle.plan.proofs.Answers.{denied, granted, answer-no}
+use Rattle.basis.proofs.Answers.{denied, granted, answer-no}
 use Rattle.plan.proofs.conditions.rooted.Statement.{statement}
 use Rattle.plan.proofs.conditions.rooted.Tie as tie
 

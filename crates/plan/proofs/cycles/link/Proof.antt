@@ -3,7 +3,7 @@ use Prim.Native.Nat.{_<_}
 use borrow.Author.Needs.{needs}
 use native.Mathlib.Omega.{arith}
 use Rattle.bitset.proofs.Sets.{member-below}
-use Rattle.plan.proofs.Answers.{denied, granted}
+use Rattle.basis.proofs.Answers.{denied, granted}
 use Rattle.plan.proofs.Closing.{links-none, links-one}
 use Rattle.plan.proofs.cycles.link.Statement.{statement}
 use Rattle.plan.proofs.cycles.link.Tie as tie

@@ -5,7 +5,7 @@ use native.Mathlib.Omega.{arith}
 use borrow.Author.Count.{below-more}
 use borrow.Author.Needs.{needs}
 use Rattle.plan.specs.Closure.{Holds}
-use Rattle.plan.proofs.Answers.{holds, fails, answer-yes, answer-no}
+use Rattle.basis.proofs.Answers.{holds, fails, answer-yes, answer-no}
 use Rattle.plan.proofs.cycles.loopless.Statement.{statement}
 use Rattle.plan.proofs.cycles.loopless.Tie as tie
 

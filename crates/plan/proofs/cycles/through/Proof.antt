@@ -1,6 +1,6 @@
 -- `plan::cycles::through` meets its contract: a bitwise or has the members of both.
 use borrow.Author.Needs.{needs}
-use Rattle.plan.proofs.Answers.{holds, fails}
+use Rattle.basis.proofs.Answers.{holds, fails}
 use Rattle.plan.proofs.Closing.{through-yes, through-no}
 use Rattle.plan.proofs.cycles.through.Statement.{statement}
 use Rattle.plan.proofs.cycles.through.Tie as tie

@@ -5,7 +5,7 @@ use borrow.Author.Needs.{needs}
 use Rattle.pacsolve.specs.Problem.{Problem}
 use Rattle.pacsolve.specs.Plan.{Plan, plan, Rooted}
 use Rattle.catalogue.specs.Survey.{tabled}
-use Rattle.plan.proofs.Answers.{denied, granted}
+use Rattle.basis.proofs.Answers.{denied, granted}
 use Rattle.plan.proofs.Faults.{UpTo2, UpTo3, UpTo4, UpTo5, fault-1, fault-2, fault-3, fault-4, fault-5, fault-6, fault-none}
 use Rattle.plan.proofs.judging.first_fault.Statement.{statement}
 use Rattle.plan.proofs.judging.first_fault.Tie as tie

@@ -1,7 +1,7 @@
 -- `plan::packages::beside` meets its contract: its tests are the cases of the condition.
 use borrow.Author.Needs.{needs}
 use Rattle.basis.proofs.Decide.{decides-by, decides-not, decides-eq}
-use Rattle.plan.proofs.Answers.{answer-no}
+use Rattle.basis.proofs.Answers.{answer-no}
 use Rattle.plan.proofs.packages.beside.Statement.{statement}
 use Rattle.plan.proofs.packages.beside.Tie as tie
 

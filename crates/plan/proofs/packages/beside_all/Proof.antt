@@ -3,7 +3,7 @@ use borrow.Author.Needs.{needs}
 use native.Mathlib.Omega.{arith}
 use Rattle.bitset.specs.Bits.{count}
 use Rattle.plan.specs.Pairs.{Beside}
-use Rattle.plan.proofs.Answers.{denied, granted, answer-yes, answer-no}
+use Rattle.basis.proofs.Answers.{denied, granted, answer-yes, answer-no}
 use Rattle.plan.proofs.MemberWalk.{Walked, walk-start, walk-end, walk-at, walk-less, walk-on}
 use Rattle.plan.proofs.packages.beside_all.Statement.{statement}
 use Rattle.plan.proofs.packages.beside_all.Tie as tie

@@ -3,7 +3,7 @@ use mathlib.Core.Path.{sym}
 use borrow.Author.Needs.{needs}
 use native.Mathlib.Omega.{arith}
 use Rattle.bitset.specs.Bits.{count}
-use Rattle.plan.proofs.Answers.{denied, granted, answer-yes, answer-no}
+use Rattle.basis.proofs.Answers.{denied, granted, answer-yes, answer-no}
 use Rattle.plan.proofs.MemberWalk.{Walked, walk-start, walk-end, walk-at, walk-less, walk-left, walk-other, walk-on}
 use Rattle.plan.proofs.PairTests.{Pairwise, pairs-on}
 use Rattle.plan.proofs.packages.pairwise.Statement.{statement}

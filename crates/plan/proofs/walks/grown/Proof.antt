@@ -11,7 +11,7 @@ use Rattle.bitset.proofs.Sets.{member-below}
 use Rattle.pacsolve.specs.Plan.{plan}
 use Rattle.catalogue.specs.declared.Settings.{Settings}
 use Rattle.catalogue.specs.Survey.{tabled}
-use Rattle.plan.proofs.Answers.{denied, granted}
+use Rattle.basis.proofs.Answers.{denied, granted}
 use Rattle.plan.proofs.Reaching.{Reaching, reach-start, reach-on, reach-end, grown-none}
 use Rattle.plan.proofs.Subsets.{count-within}
 use Rattle.plan.proofs.walks.grown.Statement.{statement}

@@ -2,7 +2,7 @@
 use borrow.Author.Needs.{needs}
 use native.Mathlib.Omega.{arith}
 use Rattle.bitset.proofs.Sets.{member-below}
-use Rattle.plan.proofs.Answers.{denied, granted}
+use Rattle.basis.proofs.Answers.{denied, granted}
 use Rattle.plan.proofs.Reaching.{joins-none, joins-one}
 use Rattle.plan.proofs.walks.joined.Statement.{statement}
 use Rattle.plan.proofs.walks.joined.Tie as tie
