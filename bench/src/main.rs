@@ -1,8 +1,12 @@
-//! Times the first plan and eight plans of catalogues, by the C functions, in all six settings with objectives 0 1 2: bench FOLDER.
+//! Times the survey, the first plan and eight plans of catalogues, by the C functions, in all six settings with objectives 0 1 2: bench FOLDER.
 use std::time::Instant;
 
 unsafe extern "C" {
     fn boxplan_read(text: *const u8, text_len: usize, entries: *mut u16, entries_len: usize, slots: *mut u16, slots_len: usize, counts: *mut u16, counts_len: usize) -> u8;
+    fn boxplan_check(
+        entries: *const u16, entries_len: usize, slots: *const u16, slots_len: usize, text: *const u8, text_len: usize, root: u16, mode: u8, cycles: u8,
+        objectives: *const u8, objectives_len: usize, set: u64, table: *const u8, table_len: usize, condition: *mut u8, condition_len: usize, cost: *mut u32, cost_len: usize,
+    ) -> u8;
     fn boxplan_first(
         entries: *const u16, entries_len: usize, slots: *const u16, slots_len: usize, text: *const u8, text_len: usize, root: u16, mode: u8, cycles: u8,
         objectives: *const u8, objectives_len: usize, plan: *mut u8, plan_len: usize, set: *mut u64, set_len: usize, cost: *mut u32, cost_len: usize,
@@ -48,8 +52,24 @@ fn ask(c: &Catalogue, mode: u8, cycles: u8, given: Option<u64>, plan: &mut [u8])
     (number == 0).then_some(set[0])
 }
 
-/// Seconds to the first plan, and to eight plans or the end of the listing.
-fn time(c: &Catalogue, mode: u8, cycles: u8) -> (f64, f64) {
+/// Seconds for the survey: a check of the empty set, which ends at condition 1.
+fn survey(c: &Catalogue, mode: u8, cycles: u8) -> f64 {
+    let (objectives, table, mut condition, mut cost) = ([0u8, 1, 2], vec![255u8; c.slots.len() / 4], [0u8], [0u32; 3]);
+    let start = Instant::now();
+    let number = unsafe {
+        boxplan_check(
+            c.entries.as_ptr(), c.entries.len(), c.slots.as_ptr(), c.slots.len(), c.text.as_ptr(), c.text.len(), 0, mode, cycles, objectives.as_ptr(), 3, 0,
+            table.as_ptr(), table.len(), condition.as_mut_ptr(), 1, cost.as_mut_ptr(), 3,
+        )
+    };
+    let time = start.elapsed().as_secs_f64();
+    assert_eq!((number, condition[0]), (0, 1), "the empty set holds no root");
+    time
+}
+
+/// Seconds for the survey, to the first plan, and to eight plans or the end of the listing.
+fn time(c: &Catalogue, mode: u8, cycles: u8) -> [f64; 3] {
+    let surveyed = survey(c, mode, cycles);
     let mut plan = vec![0u8; c.slots.len() / 4];
     let start = Instant::now();
     let mut last = ask(c, mode, cycles, None, &mut plan);
@@ -58,16 +78,16 @@ fn time(c: &Catalogue, mode: u8, cycles: u8) -> (f64, f64) {
         let Some(set) = last else { break };
         last = ask(c, mode, cycles, Some(set), &mut plan);
     }
-    (first, start.elapsed().as_secs_f64())
+    [surveyed, first, start.elapsed().as_secs_f64()]
 }
 
 fn main() {
     let folder = std::env::args().nth(1).expect("bench FOLDER");
     let mut names: Vec<_> = std::fs::read_dir(folder).expect("a folder").map(|f| f.expect("a file").path()).collect();
     names.sort();
-    println!("| family | catalogues in six settings | first plan: mean | worst | eight plans: mean | worst |");
-    println!("|---|---|---|---|---|---|");
-    let mut families: Vec<(String, Vec<(f64, f64)>)> = Vec::new();
+    println!("| family | catalogues in six settings | survey: mean | worst | first plan: mean | worst | eight plans: mean | worst |");
+    println!("|---|---|---|---|---|---|---|---|");
+    let mut families: Vec<(String, Vec<[f64; 3]>)> = Vec::new();
     for name in names {
         let family = name.file_stem().expect("a name").to_string_lossy().split('-').next().expect("a family").to_string();
         let c = read(std::fs::read(&name).expect("a catalogue"));
@@ -78,8 +98,12 @@ fn main() {
         }
     }
     for (family, times) in &families {
-        let mean = |f: fn(&(f64, f64)) -> f64| (times.iter().map(|t| f(t).ln()).sum::<f64>() / times.len() as f64).exp();
-        let worst = |f: fn(&(f64, f64)) -> f64| times.iter().map(f).fold(0.0, f64::max);
-        println!("| {family} | {} | {:.3} ms | {:.2} ms | {:.3} ms | {:.2} ms |", times.len(), 1e3 * mean(|t| t.0), 1e3 * worst(|t| t.0), 1e3 * mean(|t| t.1), 1e3 * worst(|t| t.1));
+        print!("| {family} | {} |", times.len());
+        for k in 0..3 {
+            let mean = (times.iter().map(|t| t[k].ln()).sum::<f64>() / times.len() as f64).exp();
+            let worst = times.iter().map(|t| t[k]).fold(0.0, f64::max);
+            print!(" {:.3} ms | {:.2} ms |", 1e3 * mean, 1e3 * worst);
+        }
+        println!();
     }
 }
