@@ -4,16 +4,13 @@ use mathlib.Core.List.{List, [], _∷_}
 use Prim.Native.Nat.{ℕ}
 use lib.ListN.{length, getD}
 use Rattle.constraint.specs.declared.Version.{Version}
-use Rattle.constraint.specs.declared.Reading.{Reading}
 use Rattle.constraint.proofs.Outcome.{reading-one}
 use Rattle.catalogue.specs.Tables.{Lent}
-use Rattle.plan.specs.declared.Checked.{Checked}
 use Rattle.plan.proofs.Outcome.{check-one}
 use Rattle.lister.specs.declared.Answer.{Answer}
 use Rattle.lister.specs.declared.ListingRecord.{ListingRecord}
 use Rattle.lister.specs.Turns.{listing}
 use Rattle.lister.proofs.TurnOutcome.{turn-one}
-use Rattle.csv.specs.declared.Sheet.{Sheet}
 use Rattle.csv.proofs.Outcome.{read-one}
 use Rattle.abi.specs.Crossing.{FitsC, ChecksC, ListsC, TurnsC, ReadsC, short, answered}
 

@@ -8,7 +8,7 @@ use Prim.Native.Nat.{ℕ, zero, suc, _+_, _≤_, _<_}
 use native.Mathlib.Nat.{add-zero, not-suc-le-zero, zero-lt-suc, zero-add}
 use native.Mathlib.Omega.{arith}
 use lib.ListN.{length, getD}
-use lib.Dec.{T, eqb}
+use lib.Dec.{eqb}
 use Rattle.basis.specs.Lists.{In}
 use Rattle.basis.specs.Tests.{Decides}
 use Rattle.basis.proofs.Decide.{decided, decides-or, decides-eq, decides-some, some-of, below-suc}

@@ -4,10 +4,9 @@ use mathlib.Core.List.{List}
 use mathlib.Core.Logic.{_⊎_, inl, inr}
 use Prim.Native.Nat.{ℕ}
 use lib.ListN.{getD}
-use Rattle.bitset.specs.Bits.{Member}
 use Rattle.bitset.proofs.Sets.{same-members}
 use Rattle.pacsolve.specs.Problem.{Problem}
-use Rattle.pacsolve.specs.Plan.{Plan, plan, none, chosen, MemberOf, Walk, here, on, Sound}
+use Rattle.pacsolve.specs.Plan.{Plan, none, chosen, MemberOf, Walk, here, on, Sound}
 use Rattle.pacsolve.specs.Order.{Precedes}
 use Rattle.pacsolve.specs.Listing.{Good, Asked, Least, NoneLeft}
 use Rattle.pacsolve.proofs.Order.{precedes-total}

@@ -1,10 +1,10 @@
 -- What a set costs at the prices of a node is no more than the worth of its cost, but for what dependencies and duplicates count one member late.
-use mathlib.Core.Path.{_≡_, refl, sym, ap, ap₂, _∙_}
+use mathlib.Core.Path.{_≡_, refl, sym, ap, _∙_}
 use mathlib.Core.List.{List}
 use mathlib.Core.Logic.{_⊎_, inl, inr}
 use Prim.Native.Nat.{ℕ, zero, suc, _+_, _-_, _*_, _/_, _^_, _≤_, _<_}
 use native.Mathlib.Decide.{decLt}
-use native.Mathlib.Nat.{mul-zero, zero-mul, one-mul, mul-add, add-mul, mul-comm, mul-left-comm, mul-suc, mul-le-mul-left}
+use native.Mathlib.Nat.{mul-zero, zero-mul, mul-add, add-mul, mul-comm, mul-left-comm, mul-suc, mul-le-mul-left}
 use native.Mathlib.Omega.{arith}
 use lib.ListN.{length, getD, List·getD-eq-default}
 use Rattle.basis.specs.Sum.{sum, same}
@@ -21,7 +21,7 @@ use Rattle.plan.proofs.Totals.{sum-further, over-bound}
 use Rattle.price.specs.declared.Scale.{Scale}
 use Rattle.price.specs.declared.packages.Known.{Known}
 use Rattle.price.specs.Prices.{priceOf, everything, Low}
-use Rattle.price.specs.Worth.{codeAt, partOf, countOf, doubleOf, Scaled, Small, worthOf, basePrice, BasePrices}
+use Rattle.price.specs.Worth.{codeAt, partOf, countOf, doubleOf, Scaled, Small, worthOf, BasePrices}
 use Rattle.price.specs.Kinds.{beforeIt, shared, firsts, Packaged, Raised}
 use Rattle.price.proofs.FirstMembers.{sum-add, same-le}
 use Rattle.price.proofs.Units.{part-le}

@@ -1,5 +1,5 @@
 -- What drawing from prices comes to: one price lowered, amounts drawn one after the other, and amounts drawn along a walk through the members of a set.
-use mathlib.Core.Path.{_≡_, refl, sym, ap, ap₂, _∙_}
+use mathlib.Core.Path.{_≡_, refl, sym, ap, _∙_}
 use mathlib.Core.List.{List}
 use mathlib.Core.Logic.{_⊎_, inl, inr}
 use Prim.Native.Nat.{ℕ, _+_, _-_, _*_, _/_, _^_, _≤_, _<_}
@@ -17,7 +17,7 @@ use Rattle.bitset.specs.Search.{LowestOr64}
 use Rattle.bitset.proofs.Sets.{member-or-not, member-below, none-in-empty, bit-of-none}
 use Rattle.bitset.proofs.Least.{lowest-trailing}
 use Rattle.bitset.proofs.Made.{rest-members}
-use Rattle.plan.proofs.MemberWalk.{Walked, walk-start, walk-end, walk-at, walk-on, walk-left, walk-other}
+use Rattle.plan.proofs.MemberWalk.{Walked, walk-start, walk-on, walk-left}
 use Rattle.price.specs.Prices.{priceOf, everything, Meets, Has, Drawn, Low, ServesTo, Serves}
 
 -- one term less by x: the sum is less by as much

@@ -1,23 +1,20 @@
 -- An array of 64 filled one after the other, and packages named one after the other.
-use mathlib.Core.Path.{_≡_, refl, sym, ap, _∙_}
+use mathlib.Core.Path.{_≡_, sym, _∙_}
 use mathlib.Core.List.{List}
-use mathlib.Core.Logic.{_⊎_, inl, inr}
 use Prim.Native.Nat.{ℕ, _+_, _^_, _≤_, _<_}
 use native.Mathlib.Decide.{ℕ-discrete, decLt}
-use native.Mathlib.Nat.{le-refl}
 use native.Mathlib.Omega.{arith}
 use lib.Bits.{bitOr}
 use lib.ListN.{length, getD, set, length-set, replicate, length-replicate, getD-replicate, List·getD-eq-default}
 use lib.Seq.{getD-set-same, getD-set-other}
-use Rattle.bitset.specs.Bits.{Member, count}
+use Rattle.bitset.specs.Bits.{count}
 use Rattle.bitset.specs.Changes.{Without}
 use Rattle.bitset.specs.Search.{LowestOr64}
 use Rattle.bitset.proofs.Counts.{count-le}
 use Rattle.bitset.proofs.Sets.{member-below}
-use Rattle.plan.specs.Pairs.{field}
 use Rattle.plan.proofs.MemberWalk.{Walked, walk-start, walk-on, walk-less}
 use Rattle.price.specs.declared.packages.Known.{Known}
-use Rattle.price.specs.Kinds.{firsts, OfOnePackage, WithPackage, Packaged}
+use Rattle.price.specs.Kinds.{firsts, OfOnePackage, WithPackage}
 use Rattle.price.proofs.FirstMembers.{firsts-none, firsts-one, firsts-more}
 
 -- filled by f below i, and 0 from there on

@@ -2,20 +2,19 @@
 use mathlib.Core.Path.{_≡_, refl, sym, ap, ap₂, _∙_}
 use mathlib.Core.List.{List}
 use mathlib.Core.Logic.{_⊎_, inl, inr}
-use Prim.Native.Nat.{ℕ, zero, suc, _+_, _-_, _*_, _^_, _≤_, _<_}
+use Prim.Native.Nat.{ℕ, zero, suc, _+_, _-_, _*_, _≤_, _<_}
 use native.Mathlib.Decide.{ℕ-discrete}
-use native.Mathlib.Nat.{mul-zero, zero-mul, one-mul, not-suc-le-zero}
+use native.Mathlib.Nat.{mul-zero, zero-mul, one-mul}
 use native.Mathlib.Omega.{arith}
 use borrow.Author.Tests.{eq-eqb, ne-eqb}
 use lib.Bits.{bitOr}
-use lib.ListN.{length, getD}
 use Rattle.basis.specs.Sum.{sum, same, one-if}
 use Rattle.basis.proofs.Sums.{sum-zero, sum-mono, term-le}
 use Rattle.bitset.specs.Bits.{bit, Member}
 use Rattle.bitset.proofs.Made.{join-members}
-use Rattle.bitset.proofs.Sets.{bit-cases, member-or-not, bit-of-none, none-in-empty}
+use Rattle.bitset.proofs.Sets.{bit-cases, bit-of-none, none-in-empty}
 use Rattle.plan.specs.Pairs.{field}
-use Rattle.price.specs.Kinds.{beforeIt, shared, firsts}
+use Rattle.price.specs.Kinds.{beforeIt, firsts}
 
 -- sums of sums
 pub sum-add : (f g : ℕ → ℕ) (n : ℕ) → sum (λ e. f e + g e) n ≡ sum f n + sum g n

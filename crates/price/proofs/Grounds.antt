@@ -2,17 +2,16 @@
 use mathlib.Core.Path.{_≡_, refl}
 use mathlib.Core.List.{List}
 use mathlib.Core.Logic.{_⊎_, inl, inr, ⊎-elim}
-use Prim.Native.Nat.{ℕ, _+_, _*_, _/_, _^_, _≤_, _<_}
+use Prim.Native.Nat.{ℕ, _+_, _*_, _^_, _≤_, _<_}
 use native.Mathlib.Decide.{decLt}
 use native.Mathlib.Omega.{arith}
-use lib.ListN.{length, getD}
+use lib.ListN.{getD}
 use Rattle.bitset.specs.Bits.{Member}
 use Rattle.bitset.specs.Changes.{With}
 use Rattle.bitset.proofs.Sets.{none-in-empty}
 use Rattle.price.specs.declared.Scale.{Scale}
 use Rattle.price.specs.declared.packages.Known.{Known}
-use Rattle.price.specs.declared.floor.Ground.{Ground}
-use Rattle.price.specs.Prices.{Low, Has, Serves, Drawn}
+use Rattle.price.specs.Prices.{Has, Serves, Drawn}
 use Rattle.price.specs.Worth.{Small}
 use Rattle.price.specs.Kinds.{OfOnePackage, Packaged, Raised}
 use Rattle.price.specs.Floor.{Moderate, Floors, Dear}

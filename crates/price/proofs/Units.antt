@@ -1,6 +1,6 @@
 -- What an objective's code tells: how far it can come, and how many times it counts in a cost's worth and in an entry's price.
 use mathlib.Core.Path.{_≡_, refl}
-use Prim.Native.Nat.{ℕ, zero, suc, _+_, _*_, _^_, _≤_, _<_}
+use Prim.Native.Nat.{ℕ, zero, suc, _*_, _≤_, _<_}
 use native.Mathlib.Nat.{mul-le-mul}
 use native.Mathlib.Omega.{arith}
 use Rattle.pacsolve.specs.declared.Cost.{Cost}

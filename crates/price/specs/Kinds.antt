@@ -1,7 +1,7 @@
 -- Entries of packages that are known to be there: all but one of each package are duplicates.
 use mathlib.Core.Path.{_≡_}
 use mathlib.Core.List.{List}
-use Prim.Native.Nat.{ℕ, _+_, _*_, _/_, _≤_, _<_}
+use Prim.Native.Nat.{ℕ, _+_, _*_, _≤_, _<_}
 use lib.ListN.{length, getD}
 use Rattle.basis.specs.Sum.{sum, same}
 use Rattle.bitset.specs.Bits.{bit, Member}

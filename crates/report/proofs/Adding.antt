@@ -1,12 +1,11 @@
 -- Bytes put one behind the other are put together.
-use mathlib.Core.Path.{_≡_, refl, sym, ap, _∙_}
-use mathlib.Core.List.{List, [], _∷_, _++_, append-assoc}
+use mathlib.Core.Path.{_≡_, sym, ap, _∙_}
+use mathlib.Core.List.{List, [], _++_, append-assoc}
 use Prim.Native.Nat.{ℕ, _+_, _≤_}
 use native.Mathlib.Nat.{add-zero}
 use native.Mathlib.Omega.{arith}
 use lib.ListN.{length, take, drop, length-append, take-append-drop, length-drop}
 use lib.Seq.{length-take-le, take-length, paste}
-use Rattle.csv.specs.Filling.{over}
 use Rattle.csv.proofs.Rows.{row-behind}
 use Rattle.report.specs.Adding.{Adds}
 

@@ -1,15 +1,13 @@
 -- No two outputs fit one text, and so no two ways to leave a buffer.
 use mathlib.Core.Path.{_≡_, sym, ap, _∙_}
-use mathlib.Core.List.{List, _++_}
+use mathlib.Core.List.{List}
 use Prim.Native.Nat.{ℕ}
-use lib.ListN.{length, take, drop}
-use Rattle.basis.specs.Rows.{GivesNone}
+use lib.ListN.{length, take}
 use Rattle.basis.proofs.Rows.{gives-one, gives-not-none}
 use Rattle.pacsolve.specs.Plan.{Plan}
-use Rattle.pacsolve.specs.Listing.{Listing}
 use Rattle.pacsolve.proofs.Listing.{listing-one}
 use Rattle.catalogue.specs.Gives.{problem}
-use Rattle.csv.specs.Layout.{Line, Lays}
+use Rattle.csv.specs.Layout.{Line}
 use Rattle.csv.proofs.Unique.{one-sheet}
 use Rattle.report.specs.Output.{shown, refusing, lentBy, readRows, firstRows, Prints, Printed, unread, refused, listed}
 

@@ -9,10 +9,10 @@ use native.Mathlib.Omega.{arith}
 use lib.Dec.{T, eqb, ltb, lt→ltb, ltb→lt}
 use lib.ListN.{length, take, drop, length-append, length-drop, take-append-drop}
 use lib.Seq.{take-at, drop-at, length-take-le}
-use Rattle.basis.specs.Bytes.{bytes, All}
-use Rattle.basis.proofs.Runs.{Stops, run-stops, all-append, all-weaken}
+use Rattle.basis.specs.Bytes.{All}
+use Rattle.basis.proofs.Runs.{run-stops, all-append, all-weaken}
 use Rattle.bitset.specs.Bits.{bit}
-use Rattle.constraint.specs.Numeral.{Digit, valueFrom, value}
+use Rattle.constraint.specs.Numeral.{Digit, valueFrom}
 use Rattle.csv.specs.declared.line.EntryParts.{EntryParts}
 use Rattle.csv.specs.Layout.{crlf, Line, entry, slot, written, Number, FieldByte, EntryLine, LineOk}
 use Rattle.csv.specs.Says.{entryCount}

@@ -2,12 +2,11 @@
 use mathlib.Core.Path.{_≡_, refl, sym, ap, _∙_}
 use mathlib.Core.List.{List, [], _∷_, _++_, append-assoc, append-nil}
 use mathlib.Core.Logic.{_⊎_, inl, inr}
-use Prim.Native.Nat.{ℕ, suc, _+_, _*_, _≤_, _<_}
+use Prim.Native.Nat.{ℕ, suc, _+_, _≤_, _<_}
 use native.Mathlib.Omega.{arith}
-use lib.ListN.{length, take, drop, length-append, length-drop}
+use lib.ListN.{length, take, drop, length-append}
 use lib.Seq.{take-at, take-all}
-use Rattle.basis.specs.Lists.{In}
-use Rattle.basis.specs.Rows.{Row, Gives, GivesNone, refusal}
+use Rattle.basis.specs.Rows.{GivesNone}
 use Rattle.basis.specs.declared.Refusal.{Refusal}
 use Rattle.basis.proofs.Lists.{in-right}
 use Rattle.basis.proofs.Rows.{none-before}
@@ -23,11 +22,11 @@ use Rattle.catalogue.specs.Refusals.{rows}
 use Rattle.catalogue.specs.Gives.{problem}
 use Rattle.lister.specs.declared.Answer.{Answer}
 use Rattle.lister.specs.declared.Answer.the-variants.{Refused, Plan}
-use Rattle.lister.specs.Answers.{given, askRows, Firsts, Nexts, refused, found}
+use Rattle.lister.specs.Answers.{Firsts, Nexts, refused, found}
 use Rattle.lister.proofs.Asked.{answers-least, answers-none, given-back}
 use Rattle.lister.proofs.Outcome.{computed}
-use Rattle.csv.specs.Layout.{Line, Lays}
-use Rattle.csv.specs.Says.{entryCount, slotCount}
+use Rattle.csv.specs.Layout.{Line}
+use Rattle.csv.specs.Says.{slotCount}
 use Rattle.csv.proofs.Unique.{one-sheet}
 use Rattle.report.specs.declared.plans.Shown.{Shown}
 use Rattle.report.specs.declared.plans.Step.{Step}

@@ -6,11 +6,10 @@ use Prim.Native.Nat.{ℕ, _+_, _*_, _≤_, _<_}
 use native.Mathlib.Omega.{arith}
 use lib.Dec.{T, eqb, eqb→eq}
 use lib.ListN.{length, drop, length-drop}
-use Rattle.basis.specs.Bytes.{All}
 use Rattle.bitset.specs.Bits.{bit, Member}
 use Rattle.csv.specs.declared.line.EntryParts.{EntryParts}
 use Rattle.csv.specs.declared.line.SlotParts.{SlotParts}
-use Rattle.csv.specs.Layout.{Line, FieldByte, Lays, body, crlf}
+use Rattle.csv.specs.Layout.{Line, FieldByte, body, crlf}
 use Rattle.csv.specs.Says.{entryCount}
 use Rattle.csv.specs.Reader.{IsLine, EntryFound, SlotFound, NoLine, Run}
 use Rattle.csv.specs.Numbering.{part}
@@ -19,7 +18,7 @@ use Rattle.csv.proofs.Walks.{_then_, Next, next-line, next-ok, lines-at-end, al
 use Rattle.csv.proofs.Found.{entry-of, slot-of}
 use Rattle.csv.proofs.Filled.{entry-is, slot-is, entries-of}
 use Rattle.report.specs.declared.members.Place.{Place}
-use Rattle.report.specs.Output.{recordOf, present, membersFrom, members}
+use Rattle.report.specs.Output.{recordOf, present, members}
 use Rattle.report.specs.Adding.{Adds, RecordRoom}
 use Rattle.report.specs.Telling.{MemberRoom, MemberTold, Telling, Underway, Tells, Tellable, AllTold}
 use Rattle.report.proofs.Adding.{adds-none, adds-both, adds-length}

@@ -1,5 +1,5 @@
 // Bytes put into the output, from a place on.
-ghost use mathlib.Core.List.{[], _∷_, _++_};
+ghost use mathlib.Core.List.{_∷_, _++_};
 ghost use Prim.Native.Nat.{_+_, _≤_};
 ghost use lib.ListN.{length};
 ghost use Rattle.csv.specs.Layout.{crlf};

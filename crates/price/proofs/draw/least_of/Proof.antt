@@ -1,7 +1,7 @@
 -- `price::draw::least_of` meets its contract: the least so far is no more than the price of any member passed.
 use Prim.Native.Nat.{_≤_, _<_}
 use lib.ListN.{getD}
-use Rattle.plan.proofs.MemberWalk.{Walked, walk-start, walk-end, walk-at, walk-less, walk-on}
+use Rattle.plan.proofs.MemberWalk.{Walked, walk-start, walk-end, walk-less, walk-on}
 use Rattle.price.proofs.Drawing.{walk-weaker}
 use Rattle.bitset.proofs.Sets.{member-below}
 use native.Mathlib.Omega.{arith}

@@ -1,5 +1,5 @@
 -- `price::draw::pay_slots` meets its contract: what the slots below s have in common is drawn.
-use Prim.Native.Nat.{_-_, _*_, _≤_, _<_, _^_}
+use Prim.Native.Nat.{_-_, _*_}
 use native.Mathlib.Omega.{arith}
 use borrow.Author.Needs.{needs}
 use Rattle.price.proofs.Drawing.{Serving, serving-start, serving-on, serving-end}

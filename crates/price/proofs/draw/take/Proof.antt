@@ -4,7 +4,6 @@ use Rattle.price.proofs.Drawing.{Taking, taking-start, taking-small, ta
 use Prim.Native.Nat.{_<_}
 use native.Mathlib.Omega.{arith}
 use borrow.Author.Needs.{needs}
-use borrow.Kind.Array.{good-length, eInt}
 use Rattle.bitset.specs.Bits.{count}
 use Rattle.price.proofs.draw.take.Statement.{statement}
 use Rattle.price.proofs.draw.take.Tie as tie

@@ -1,6 +1,5 @@
 -- `price::floor::with_dear` meets its contract.
-use mathlib.Core.Path.{_≡_}
-use mathlib.Core.Logic.{_⊎_, inl, inr}
+use mathlib.Core.Logic.{inl}
 use Rattle.price.proofs.Grounds.{dear-more}
 use borrow.Author.Needs.{needs}
 use Rattle.price.proofs.floor.with_dear.Statement.{statement}

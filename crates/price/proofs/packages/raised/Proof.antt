@@ -4,7 +4,6 @@ use lib.ListN.{getD}
 use Rattle.bitset.specs.Bits.{bit}
 use Rattle.price.proofs.Filling.{Filling, filling-start, filling-on}
 use native.Mathlib.Omega.{arith}
-use borrow.Author.Needs.{needs}
 use Rattle.price.proofs.packages.raised.Statement.{statement}
 use Rattle.price.proofs.packages.raised.Tie as tie
 use Rattle.price.proofs.packages.raised.Reads as reads

@@ -1,6 +1,6 @@
 -- `price::packages::with_package` meets its contract.
 use mathlib.Core.Path.{refl}
-use Rattle.price.proofs.Filling.{named-more, named-same}
+use Rattle.price.proofs.Filling.{named-more}
 use borrow.Author.Needs.{needs}
 use Rattle.price.proofs.packages.with_package.Statement.{statement}
 use Rattle.price.proofs.packages.with_package.Tie as tie
