@@ -5,7 +5,7 @@ use mathlib.Core.List.{List, [], _∷_}
 use mathlib.Core.Logic.{inl, inr}
 use Prim.Native.Nat.{ℕ, suc}
 use lib.ListN.{length}
-use Rattle.basis.specs.Rows.{Row, row, Gives, GivesNone, refusal}
+use Rattle.basis.specs.Rows.{Gives, GivesNone, refusal}
 use Rattle.basis.proofs.Rows.{gives-one, gives-not-none, gives-after, none-after}
 use Rattle.pacsolve.specs.Plan.{Plan as A-plan, plan, Sound}
 use Rattle.pacsolve.specs.Cost.{cost}

@@ -6,14 +6,14 @@ use mathlib.Core.Logic.{inl, inr}
 use Prim.Native.Nat.{ℕ, _≤_, _<_}
 use native.Mathlib.Omega.{arith}
 use lib.ListN.{length, getD}
-use Rattle.bitset.specs.Bits.{Member}
-use Rattle.pacsolve.proofs.Fixed.{least-or-none-left}
-use Rattle.pacsolve.proofs.Refit.{refit-cost}
 use Rattle.basis.specs.Rows.{Gives, GivesNone, refusal}
 use Rattle.basis.proofs.Rows.{gives-before, gives-after, gives-among}
+use Rattle.bitset.specs.Bits.{Member}
 use Rattle.pacsolve.specs.Plan.{Plan as A-plan, plan, Sound}
 use Rattle.pacsolve.specs.Cost.{cost}
 use Rattle.pacsolve.specs.Listing.{Asked, from-the-start, after}
+use Rattle.pacsolve.proofs.Fixed.{least-or-none-left}
+use Rattle.pacsolve.proofs.Refit.{refit-cost}
 use Rattle.catalogue.specs.Tables.{Lent, entryCount, slotCount}
 use Rattle.catalogue.specs.Refusals.{rows}
 use Rattle.catalogue.specs.Gives.{problem}
@@ -21,13 +21,14 @@ use Rattle.catalogue.specs.declared.Survey.{Survey}
 use Rattle.catalogue.specs.Survey.{Indexes, Surveys, refused as surveyed-refused, sane as surveyed-sane, indexed}
 use Rattle.catalogue.proofs.Sane.{Sane, sane, few-entries, right-room}
 use Rattle.catalogue.proofs.Indexed.{indexed-sound, indexed-least, indexed-none-left}
-use Rattle.lister.specs.declared.Answer.the-variants.{Refused, Plan}
-use Rattle.lister.specs.declared.Best.{Best}
-use Rattle.lister.specs.Answers.{given, Lists, refused, found}
-use Rattle.lister.specs.Search.{askedIf, Costed}
 use Rattle.price.specs.Worth.{Apart}
 use Rattle.price.proofs.Worth.{different-codes}
-use Rattle.lister.specs.Walks.{Posed, Found, none-left, the-least, UnsoundIf}
+use Rattle.node.specs.declared.Best.{Best}
+use Rattle.node.specs.Sought.{askedIf, Costed}
+use Rattle.search.specs.Found.{Posed, Found, none-left, the-least}
+use Rattle.lister.specs.declared.Answer.the-variants.{Refused, Plan}
+use Rattle.lister.specs.Answers.{Lists, refused, found}
+use Rattle.lister.specs.Given.{UnsoundIf}
 use Rattle.lister.proofs.Asked.{Backed, ask-eleven, ask-none}
 
 module _ (L : Lent) (buffer : List ℕ) where

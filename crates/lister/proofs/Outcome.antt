@@ -1,10 +1,10 @@
 -- First and next have exactly one outcome each: no two fit one input, and some outcome fits every input.
-use mathlib.Core.Path.{_≡_, refl, ap}
+use mathlib.Core.Path.{_≡_, refl}
 use mathlib.Core.List.{List}
 use mathlib.Core.Logic.{_⊎_, inl, inr}
 use Prim.Native.Nat.{ℕ}
 use lib.ListN.{length}
-use Rattle.basis.specs.Rows.{Row, row, Gives, GivesNone, refusal}
+use Rattle.basis.specs.Rows.{Gives, GivesNone, refusal}
 use Rattle.basis.proofs.Decide.{decided, not-or-not}
 use Rattle.basis.proofs.Rows.{Settled, gives-one, gives-not-none, gives-some, none-before, settled-append}
 use Rattle.pacsolve.specs.Problem.{Problem}

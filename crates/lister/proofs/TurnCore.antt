@@ -3,7 +3,7 @@ use mathlib.Core.Path.{_≡_, refl, sym, ap, _∙_, subst}
 use mathlib.Core.Bool.{Bool}
 use mathlib.Core.List.{List, [], _∷_, _++_}
 use mathlib.Core.Logic.{_⊎_, inl, inr}
-use Prim.Native.Nat.{ℕ, suc, _≤_, _<_}
+use Prim.Native.Nat.{ℕ, _≤_, _<_}
 use native.Mathlib.Decide.{ℕ-discrete}
 use native.Mathlib.Omega.{arith}
 use lib.Dec.{eqb}
@@ -19,11 +19,11 @@ use Rattle.catalogue.specs.Tables.{Lent}
 use Rattle.catalogue.specs.Refusals.{rows}
 use Rattle.catalogue.specs.Gives.{problem}
 use Rattle.catalogue.specs.Survey.{Surveys}
+use Rattle.node.specs.Sought.{askedIf}
 use Rattle.lister.specs.declared.Answer.{Answer}
 use Rattle.lister.specs.declared.Answer.the-variants.{Refused, Plan}
 use Rattle.lister.specs.declared.ListingRecord.{ListingRecord}
-use Rattle.lister.specs.Answers.{given, askRows, Lists, refused as ask-refused, found as ask-found}
-use Rattle.lister.specs.Search.{askedIf}
+use Rattle.lister.specs.Answers.{askRows, Lists, refused as ask-refused, found as ask-found}
 use Rattle.lister.specs.Turns.{running, ended, listing, Asks, the-first, the-next, turnRows, Kept, Turns, refused, found, MovesOn, refused-with, given-plan, Closing}
 use Rattle.lister.proofs.Asks.{survey-gives, survey-none}
 use Rattle.lister.proofs.TurnOutcome.{asks-one, ended-asks-nothing}

@@ -1,12 +1,12 @@
 -- A turn has exactly one outcome: answer, record and buffer.
-use mathlib.Core.Path.{_≡_, refl, sym, ap, _∙_}
+use mathlib.Core.Path.{_≡_, refl, sym, _∙_}
 use mathlib.Core.List.{List}
 use mathlib.Core.Logic.{_⊎_, inl, inr}
 use Prim.Native.Nat.{ℕ, _<_}
 use native.Mathlib.Decide.{ℕ-discrete, decLt}
 use native.Mathlib.Omega.{arith}
 use lib.ListN.{length}
-use Rattle.basis.specs.Rows.{Row, row, Gives, GivesNone, refusal}
+use Rattle.basis.specs.Rows.{Gives, GivesNone, refusal}
 use Rattle.basis.proofs.Decide.{decided, both-or-not, not-or-not}
 use Rattle.basis.proofs.Rows.{Settled, gives-one, gives-not-none, gives-some, none-before, settled-append}
 use Rattle.pacsolve.specs.Plan.{plan}

@@ -6,7 +6,7 @@ use Prim.Native.Nat.{ℕ, suc, _≤_, _<_}
 use native.Mathlib.Decide.{ℕ-discrete, le-ind}
 use native.Mathlib.Omega.{arith}
 use lib.ListN.{length}
-use Rattle.basis.specs.Rows.{Row, row, Gives, GivesNone, refusal}
+use Rattle.basis.specs.Rows.{GivesNone, refusal}
 use Rattle.basis.proofs.Rows.{gives-one, gives-not-none, gives-after, none-after}
 use Rattle.pacsolve.specs.Plan.{Plan as A-plan, plan, Sound}
 use Rattle.pacsolve.specs.Listing.{Listing, Asked, from-the-start, after, Least, NoneLeft}

@@ -9,7 +9,7 @@ use Rattle.pacsolve.specs.Problem.{Problem}
 use Rattle.pacsolve.specs.Plan.{Plan, faults}
 use Rattle.pacsolve.proofs.Conditions.{sound-faultless}
 use Rattle.plan.specs.Judged.{FirstFault}
-use Rattle.lister.specs.Walks.{UnsoundIf}
+use Rattle.lister.specs.Given.{UnsoundIf}
 
 pub not-given : (given : Bool) (p : Problem) (P : Plan) → given ≡ false → UnsoundIf given p P false
 not-given given p P e = record { unsound = λ f. absurd (false≢true f); sound = λ f g. absurd (true≢false (sym g ∙ e)) }

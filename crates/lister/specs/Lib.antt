@@ -1,15 +1,4 @@
 pub mod Answers
-pub mod Arrows
 pub mod Asking
-pub mod Clashing
-pub mod Facts
-pub mod Banning
-pub mod Grounding
-pub mod Members
-pub mod Ranking
-pub mod Reaching
-pub mod Search
-pub mod Settling
-pub mod Steps
+pub mod Given
 pub mod Turns
-pub mod Walks

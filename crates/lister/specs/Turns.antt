@@ -5,8 +5,8 @@ use mathlib.Core.Logic.{_⊎_}
 use Prim.Native.Nat.{ℕ, _<_}
 use lib.ListN.{length}
 use Rattle.basis.specs.declared.Refusal.{Refusal}
-use Rattle.pacsolve.specs.declared.Cost.{Cost}
 use Rattle.basis.specs.Rows.{Row, row, Gives, GivesNone, refusal}
+use Rattle.pacsolve.specs.declared.Cost.{Cost}
 use Rattle.pacsolve.specs.Plan.{Plan as A-plan, plan, Sound}
 use Rattle.pacsolve.specs.Listing.{Asked, from-the-start, after, Least, NoneLeft}
 use Rattle.catalogue.specs.Tables.{Lent}

@@ -1,23 +1,23 @@
 // Asking for a plan: from the start, or after a plan that is given. First and next are this, told which.
 use crate::Answer;
-use crate::Best;
-use crate::keep::store;
-use crate::least::least;
 use basis::Refusal;
 use catalogue::Settings;
+use node::Best;
 use plan::costs::cost;
 use plan::judging::first_fault;
+use search::keep::store;
+use search::least::least;
 ghost use lib.ListN.{length, take};
 ghost use mathlib.Core.Path.{_≡_};
 ghost use Rattle.pacsolve.specs.Plan.{plan as the-plan};
 ghost use mathlib.Core.List.{List};
 ghost use Prim.Native.Nat.{ℕ, _≤_};
-ghost use Rattle.plan.specs.Slots.{FewSlots};
 ghost use Rattle.catalogue.specs.Survey.{tabled};
 ghost use Rattle.catalogue.specs.Tables.{lent};
+ghost use Rattle.plan.specs.Slots.{FewSlots};
+ghost use Rattle.node.specs.Sought.{askedIf};
 ghost use Rattle.lister.specs.Answers.{Lists};
-ghost use Rattle.lister.specs.Search.{askedIf};
-ghost use Rattle.lister.specs.Walks.{UnsoundIf};
+ghost use Rattle.lister.specs.Given.{UnsoundIf};
 
 // The plan buffer's bytes, kept aside: the buffer is written while they are still needed.
 fn kept_aside(table: &[u8]) -> [u8; 256]

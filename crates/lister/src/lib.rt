@@ -1,24 +1,6 @@
 // What the calls of the listing answer, and the record that each turn moves forward (document 01, "Calls and what they give back").
-mod afford;
 mod ask;
-mod banned;
 pub mod by_value;
-mod ceiling;
-mod clash;
-mod clash_ban;
-mod forced_arrows;
-mod grounded;
-mod holds;
-mod keep;
-mod least;
-mod narrow;
-mod order;
-mod pick_slot;
-mod rank;
-mod settle;
-mod table;
-mod walk;
-mod within_reach;
 
 use basis::Refusal;
 use catalogue::Settings;
@@ -43,32 +25,6 @@ pub struct ListingRecord {
 pub struct Turned {
     pub answer: Answer,
     pub listing: ListingRecord,
-}
-
-// A plan's set and cost, where there is a plan; its table stands beside it in a buffer. Where there is none yet, cost is the bound that plans are looked for below.
-pub struct Best {
-    pub found: bool,
-    pub set: u64,
-    pub cost: Cost,
-}
-
-// What is known of the plans that are looked for at a node: they have all of must and none of ban. Where alive is false there are none.
-pub struct Node {
-    pub must: u64,
-    pub ban: u64,
-    pub alive: bool,
-}
-
-// What is to be done next at a node.
-pub enum Pick {
-    // Decide this slot, which has two choices or more.
-    Split(usize),
-    // The only choice of this slot must be there too.
-    Force(usize),
-    // A slot has no choice.
-    Dead,
-    // Every slot has one choice, which must be there.
-    Complete,
 }
 
 // First: the least sound plan.

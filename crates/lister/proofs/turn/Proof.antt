@@ -42,14 +42,14 @@ use denote.Triple.Spec.{Meets, tripleOf}
 use denote.Triple.Table.{entered, cited}
 use denote.Triple.Walked.{says, Stays, stay-ref, stay-dropped, gave-slice, walkOf, goes-dropped, goes-ref, goes-gave-slice, Walks, ends-at, walked, walk-meets}
 use denote.Exit.{yes}
-use Rattle.lister.specs.Turns.{Turns}
 use Rattle.catalogue.specs.Tables.{lent}
 use Rattle.catalogue.specs.declared.Settings.{Settings}
+use Rattle.catalogue.proofs.Settings as S
+use Rattle.catalogue.proofs.Settings.Laws as S′
+use Rattle.lister.specs.Turns.{Turns}
 use Rattle.lister.specs.declared.ListingRecord.{ListingRecord}
 use Rattle.lister.specs.declared.Answer.{Answer}
 use Rattle.lister.specs.declared.Turned.{Turned}
-use Rattle.catalogue.proofs.Settings as S
-use Rattle.catalogue.proofs.Settings.Laws as S′
 use Rattle.lister.proofs.ListingRecord as T
 use Rattle.lister.proofs.ListingRecord.Laws as T′
 use Rattle.lister.proofs.Answer as N

@@ -6,16 +6,16 @@ use borrow.Author.Needs.{needs}
 use borrow.Kind.Array.{good-length, eInt}
 use mir.Syntax.{w8}
 use Rattle.catalogue.specs.Tables.{lent}
+use Rattle.catalogue.proofs.call.survey.Reads as survey-reads
+use Rattle.plan.proofs.costs.cost.Reads as cost-reads
+use Rattle.search.proofs.least.least.Reads as least-reads
 use Rattle.lister.proofs.Asks.{survey-refused, survey-sane, few-slots, few-bytes, posed, answered-unsound, answered-found, answered-none}
 use Rattle.lister.proofs.ask.ask.Statement.{statement}
 use Rattle.lister.proofs.ask.ask.Tie as tie
 use Rattle.lister.proofs.ask.ask.Reads as reads
 use Rattle.lister.proofs.ask.ask.Lts as lts
-use Rattle.catalogue.proofs.call.survey.Reads as survey-reads
 use Rattle.lister.proofs.ask.kept_aside.Reads as kept-aside-reads
 use Rattle.lister.proofs.ask.unsound_if.Reads as unsound-if-reads
-use Rattle.lister.proofs.least.least.Reads as least-reads
-use Rattle.plan.proofs.costs.cost.Reads as cost-reads
 
 survey-requires : tie.Need-survey-requires
 survey-requires c κs = search needs

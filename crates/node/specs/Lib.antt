@@ -1,0 +1,12 @@
+pub mod Arrows
+pub mod Banning
+pub mod Clashing
+pub mod Facts
+pub mod Grounding
+pub mod Members
+pub mod Narrowing
+pub mod Order
+pub mod Reaching
+pub mod Settling
+pub mod Sought
+pub mod Steps

@@ -1,0 +1,4 @@
+pub mod Found
+pub mod Picks
+pub mod Ranking
+pub mod Walks
