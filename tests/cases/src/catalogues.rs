@@ -65,6 +65,16 @@ pub fn any_settings(random: &mut Random, lent: &mut Lent) {
     lent.objectives = random.pick(&OBJECTIVES).to_vec();
 }
 
+/// How many modes, cycles and objectives there are together.
+pub const SETTINGS: usize = 3 * 2 * OBJECTIVES.len();
+
+/// The mode, cycles and objectives of the number; every [`SETTINGS`] numbers they come again.
+pub fn numbered_settings(lent: &mut Lent, number: usize) {
+    lent.mode = (number % 3) as u8;
+    lent.cycles = (number / 3 % 2) as u8;
+    lent.objectives = OBJECTIVES[number / 6 % OBJECTIVES.len()].to_vec();
+}
+
 /// A small sane catalogue with the settings of `boxplan`.
 pub fn sane_for_boxplan(random: &mut Random) -> Lent {
     drawn(random, &SMALL, |_, lent| {

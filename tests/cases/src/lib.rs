@@ -39,8 +39,9 @@ mod shrink;
 mod text_faults;
 mod texts;
 mod wide;
+mod woven;
 
-pub use catalogues::{OBJECTIVES, sane};
+pub use catalogues::{OBJECTIVES, SETTINGS, numbered_settings, sane};
 pub use faults::{FAULTS, Fault, NUMBERS, with_faults};
 pub use inputs::{Inputs, Lent, LentText};
 pub use plans::breaking;
@@ -52,6 +53,7 @@ pub use text_faults::{
 };
 pub use texts::{Draft, names, written};
 pub use wide::{Width, wide};
+pub use woven::{WEAVES, Weave, woven};
 
 /// What a case is about.
 #[derive(Clone, Copy, Debug, PartialEq, Eq)]

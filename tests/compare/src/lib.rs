@@ -30,6 +30,24 @@ pub fn compare(inputs: &Inputs, tally: &mut Tally) -> Result<(), String> {
     }
 }
 
+/// For each slot the entries that fit it, as the second program reads its constraint.
+///
+/// # Panics
+/// If a slot has no constraint in the text.
+pub fn fitting(lent: &Lent) -> Vec<Vec<u8>> {
+    let fits = |slot, entry| {
+        let constraint = lent.constraint(slot).unwrap();
+        lent.package(entry) == lent.wanted(slot)
+            && second::fits(constraint, lent.version(entry)).fits
+    };
+    (0..lent.slot_count())
+        .map(|slot| {
+            let entries = (0..lent.entry_count()).filter(|entry| fits(slot, *entry));
+            entries.map(|entry| entry as u8).collect()
+        })
+        .collect()
+}
+
 /// An error unless the two are the same.
 fn same<T: Debug + PartialEq>(what: &str, proved: T, second: T) -> Result<(), String> {
     if proved == second {

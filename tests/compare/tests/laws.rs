@@ -3,13 +3,13 @@
 //! checks each of them. Where few slots leave a choice, the plans are also found by deciding one
 //! slot after the other.
 
-use cases::{Lent, Random, Width, wide};
-use compare::proved;
-use second::{LIMIT, Plan, Record, combinations};
+use cases::{Lent, Random, SETTINGS, WEAVES, Width, numbered_settings, wide, woven};
+use compare::{fitting, proved};
+use second::{LIMIT, Plan, PlanAnswer, Record, combinations};
 
 /// How many catalogues of each width are gone through.
 const CATALOGUES: u64 = 12;
-/// How many plans are asked for; every catalogue here has as many.
+/// How many plans are asked for; every catalogue that is wide has as many.
 const PLANS: usize = 8;
 /// Free slots, which the time that a search takes grows with. Raise it as the search gets faster.
 const FREE: usize = 6;
@@ -20,24 +20,19 @@ const DECIDED: usize = 5;
 /// Entries and slots from moderate to the limits.
 const WIDTHS: [(usize, usize); 5] = [(24, 60), (40, 100), (64, 64), (64, 150), (64, 256)];
 
-/// The first plans by first and next.
+/// The first plans by first and next; fewer only where the listing ends with 11.
 fn by_first_and_next(lent: &Lent) -> Vec<Plan> {
     let (catalogue, settings) = (lent.catalogue(), lent.settings());
     let mut buffer = lent.buffer.clone();
-    let mut plans: Vec<Plan> = Vec::new();
-    while plans.len() < PLANS {
-        let answer = match plans.last() {
+    let mut last = None;
+    listed(|| {
+        let answer = match last {
             None => proved::first(&catalogue, &settings, &mut buffer),
-            Some(last) => proved::next(&catalogue, &settings, last.set, &mut buffer),
+            Some(set) => proved::next(&catalogue, &settings, set, &mut buffer),
         };
-        assert_eq!(answer.refusal, 0);
-        plans.push(Plan {
-            cost: answer.cost,
-            table: buffer.clone(),
-            set: answer.set,
-        });
-    }
-    plans
+        last = Some(answer.set);
+        (answer, buffer.clone())
+    })
 }
 
 /// The first plans by turn.
@@ -45,16 +40,28 @@ fn by_turn(lent: &Lent) -> Vec<Plan> {
     let (catalogue, settings) = (lent.catalogue(), lent.settings());
     let mut buffer = lent.buffer.clone();
     let mut record = Record::default();
-    let mut turn = || {
+    listed(|| {
         let answer = proved::turn(&catalogue, &settings, &mut record, &mut buffer);
-        assert_eq!(answer.refusal, 0);
-        Plan {
-            cost: answer.cost,
-            table: buffer.clone(),
-            set: answer.set,
+        (answer, buffer.clone())
+    })
+}
+
+/// Asks for plans until there are enough or 11 comes. What is asked answers with a table.
+fn listed(mut ask: impl FnMut() -> (PlanAnswer, Vec<u8>)) -> Vec<Plan> {
+    let mut plans = Vec::new();
+    while plans.len() < PLANS {
+        let (answer, table) = ask();
+        if answer.refusal == 11 {
+            break;
         }
-    };
-    (0..PLANS).map(|_| turn()).collect()
+        assert_eq!(answer.refusal, 0);
+        plans.push(Plan {
+            cost: answer.cost,
+            table,
+            set: answer.set,
+        });
+    }
+    plans
 }
 
 /// Calls `visit` for the catalogues of every width, with so many free slots.
@@ -73,39 +80,44 @@ fn for_each_wide(free: usize, visit: impl Fn(&Lent, &str)) {
     }
 }
 
+/// Asserts that the first plans rise and are sound, and that turn gives the same. Gives them.
+fn rising_and_sound(lent: &Lent, about: &str) -> Vec<Plan> {
+    let (catalogue, settings) = (lent.catalogue(), lent.settings());
+    let plans = by_first_and_next(lent);
+    assert_eq!(by_turn(lent), plans, "{about}");
+    for plan in &plans {
+        let checked = second::check(&catalogue, &settings, plan.set, &plan.table);
+        assert_eq!((checked.refusal, checked.condition), (0, 0), "{about}");
+        assert_eq!(checked.cost, plan.cost, "{about}");
+        let other = proved::check(&catalogue, &settings, plan.set, &plan.table);
+        assert_eq!(other, checked, "{about}");
+    }
+    for two in plans.windows(2) {
+        let [one, other] = [&two[0], &two[1]].map(|plan| (plan.cost, &plan.table));
+        assert!(one < other, "{about}");
+    }
+    plans
+}
+
 #[test]
 fn the_first_plans_rise_and_are_sound() {
     for_each_wide(FREE, |lent, about| {
-        let (catalogue, settings) = (lent.catalogue(), lent.settings());
-        let plans = by_first_and_next(lent);
-        assert_eq!(by_turn(lent), plans, "{about}");
-        for plan in &plans {
-            let checked = second::check(&catalogue, &settings, plan.set, &plan.table);
-            assert_eq!((checked.refusal, checked.condition), (0, 0), "{about}");
-            assert_eq!(checked.cost, plan.cost, "{about}");
-            let other = proved::check(&catalogue, &settings, plan.set, &plan.table);
-            assert_eq!(other, checked, "{about}");
-        }
-        for two in plans.windows(2) {
-            let [one, other] = [&two[0], &two[1]].map(|plan| (plan.cost, &plan.table));
-            assert!(one < other, "{about}");
-        }
+        assert_eq!(rising_and_sound(lent, about).len(), PLANS, "{about}");
     });
 }
 
-/// For each slot the entries that fit it.
-fn fitting(lent: &Lent) -> Vec<Vec<u8>> {
-    let fits = |slot, entry| {
-        let constraint = lent.constraint(slot).unwrap();
-        lent.package(entry) == lent.wanted(slot)
-            && second::fits(constraint, lent.version(entry)).fits
-    };
-    (0..lent.slot_count())
-        .map(|slot| {
-            let entries = (0..lent.entry_count()).filter(|entry| fits(slot, *entry));
-            entries.map(|entry| entry as u8).collect()
-        })
-        .collect()
+#[test]
+fn with_choices_everywhere_they_do_in_every_setting() {
+    let mut listed = 0;
+    for weave in WEAVES {
+        for number in 0..SETTINGS {
+            let mut lent = woven(&mut Random::new(number as u64), weave);
+            numbered_settings(&mut lent, number);
+            assert!(combinations(&lent.catalogue()) > LIMIT);
+            listed += rising_and_sound(&lent, &format!("{weave:?}, seed {number}")).len();
+        }
+    }
+    assert!(listed > SETTINGS * PLANS, "{listed} plans");
 }
 
 /// Every set and table that follows by deciding the lowest slot of a member that holds none yet.
