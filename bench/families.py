@@ -1,12 +1,11 @@
-#!/usr/bin/env python3
-"""Writes the catalogues of the benchmark, each as boxplan reads it, to a folder: families.py FOLDER SEEDS.
+"""The three families of catalogues: 64 entries at most and up to 256 slots.
 
-Three families at the limits, 64 entries at most and up to 256 slots: chain, whose needs lead mostly onward; dense, with few packages of many versions and needs in all
-directions; loose, whose constraints are mostly `*`. A catalogue is fixed by its family's name and its seed.
+chain, whose needs lead mostly onward; dense, with few packages of many versions and needs in all directions; loose, whose constraints are mostly `*`. A catalogue is
+fixed by its family's name and its seed.
 """
-import pathlib
 import random
-import sys
+
+from catalogue import Catalogue
 
 FAMILIES = {
     'chain': dict(packages=20, versions=3, needs=4, loose=0.3, weight=7, forward=0.8),
@@ -19,33 +18,22 @@ VERSIONS = [(x, y, z) for x in range(4) for y in range(4) for z in range(3)]
 def constraint(r, versions, loose, depth=0):
     x = r.random()
     if x < loose:
-        return '*'
+        return ('*',)
     if depth < 2 and x < loose + 0.1:
-        pair = r.choice(['and', 'or'])
-        return '(%s %s %s)' % (pair, constraint(r, versions, loose, depth + 1), constraint(r, versions, loose, depth + 1))
-    return '(%s %d %d %d)' % (r.choice(['<=', '>=', '^', '^', '=']), *r.choice(versions))
+        return (r.choice(['and', 'or']), constraint(r, versions, loose, depth + 1), constraint(r, versions, loose, depth + 1))
+    return (r.choice(['<=', '>=', '^', '^', '=']), r.choice(versions))
 
 
 def catalogue(family, seed):
     f, r = FAMILIES[family], random.Random('%s %d' % (family, seed))
     versions = {p: sorted(r.sample(VERSIONS, f['versions']), reverse=True) for p in range(1, f['packages'])}
     entries = [(0, (1, 0, 0), 0)] + [(p, v, r.randint(0, f['weight'])) for p in versions for v in versions[p]]
-    lines, slots = ['package,version,weight,needs,constraint'], 0
-    for e, (p, v, w) in enumerate(entries[:64]):
-        lines.append('p%d,%d.%d.%d,%d,,' % (p, *v, w))
-        needs = max(3, r.randint(0, f['needs'])) if e == 0 else r.randint(0, f['needs'])
+    slots = []
+    for owner, (package, _, _) in enumerate(entries[:64]):
+        needs = max(3, r.randint(0, f['needs'])) if owner == 0 else r.randint(0, f['needs'])
         for _ in range(needs):
-            low = p + 1 if r.random() < f['forward'] else 1
-            if low < f['packages'] and slots < 256:
-                q = r.randint(low, f['packages'] - 1)
-                lines.append(',,,p%d,%s' % (q, constraint(r, versions[q], f['loose'])))
-                slots += 1
-    return '\r\n'.join(lines) + '\r\n'
-
-
-if __name__ == '__main__':
-    folder, seeds = pathlib.Path(sys.argv[1]), int(sys.argv[2])
-    folder.mkdir(parents=True, exist_ok=True)
-    for family in FAMILIES:
-        for seed in range(1, seeds + 1):
-            (folder / ('%s-%03d.csv' % (family, seed))).write_bytes(catalogue(family, seed).encode())
+            low = package + 1 if r.random() < f['forward'] else 1
+            if low < f['packages'] and len(slots) < 256:
+                wanted = r.randint(low, f['packages'] - 1)
+                slots.append((owner, wanted, constraint(r, versions[wanted], f['loose'])))
+    return Catalogue(entries[:64], slots)

@@ -1,5 +1,12 @@
-//! Times the survey, the first plan and eight plans of catalogues, by the C functions, in all six settings with objectives 0 1 2: bench FOLDER.
-use std::time::Instant;
+//! Times boxplan's C functions on one text and prints each measure as a line `SETTING MEASURE VALUE`, tabs between, as soon as it is had:
+//!
+//!     bench first FILE SETTING...    survey, first, cost and check in each setting, written as mode, cycles and objectives: 1, 0 and 0 1 2 are `10012`
+//!     bench eight FILE SETTING...    plans and eight
+//!     bench read FILE                read, with `-` for the setting
+//!
+//! A time is the median of up to nine of the same call in this one process, fewer where nine take long. Every buffer that a call writes is cleared before it,
+//! outside the clock.
+use std::time::{Duration, Instant};
 
 unsafe extern "C" {
     fn boxplan_read(text: *const u8, text_len: usize, entries: *mut u16, entries_len: usize, slots: *mut u16, slots_len: usize, counts: *mut u16, counts_len: usize) -> u8;
@@ -17,6 +24,12 @@ unsafe extern "C" {
     ) -> u8;
 }
 
+/// How often a call is timed, and after how long it is not timed again.
+const REPEATS: usize = 9;
+const ENOUGH: Duration = Duration::from_millis(250);
+/// How many plans a listing is asked for.
+const PLANS: u32 = 8;
+
 /// A catalogue as `boxplan_read` fills it.
 struct Catalogue {
     text: Vec<u8>,
@@ -24,86 +37,148 @@ struct Catalogue {
     slots: Vec<u16>,
 }
 
-fn read(text: Vec<u8>) -> Catalogue {
-    let (mut entries, mut slots, mut counts) = (vec![0u16; 320], vec![0u16; 1024], [0u16; 2]);
-    let number = unsafe { boxplan_read(text.as_ptr(), text.len(), entries.as_mut_ptr(), 320, slots.as_mut_ptr(), 1024, counts.as_mut_ptr(), 2) };
-    assert_eq!(number, 0, "the catalogue is read");
-    entries.truncate(counts[0] as usize * 5);
-    slots.truncate(counts[1] as usize * 4);
-    Catalogue { text, entries, slots }
+/// Mode, cycles and objectives; the root is entry 0.
+struct Setting {
+    mode: u8,
+    cycles: u8,
+    objectives: Vec<u8>,
 }
 
-/// The first plan where none is given, else the next; the buffer is the plan's own and is not cleared.
-fn ask(c: &Catalogue, mode: u8, cycles: u8, given: Option<u64>, plan: &mut [u8]) -> Option<u64> {
-    let (objectives, mut set, mut cost) = ([0u8, 1, 2], [0u64], [0u32; 3]);
-    let number = unsafe {
-        match given {
-            None => boxplan_first(
-                c.entries.as_ptr(), c.entries.len(), c.slots.as_ptr(), c.slots.len(), c.text.as_ptr(), c.text.len(), 0, mode, cycles, objectives.as_ptr(), 3,
-                plan.as_mut_ptr(), plan.len(), set.as_mut_ptr(), 1, cost.as_mut_ptr(), 3,
-            ),
-            Some(last) => boxplan_next(
-                c.entries.as_ptr(), c.entries.len(), c.slots.as_ptr(), c.slots.len(), c.text.as_ptr(), c.text.len(), 0, mode, cycles, objectives.as_ptr(), 3,
-                last, plan.as_mut_ptr(), plan.len(), set.as_mut_ptr(), 1, cost.as_mut_ptr(), 3,
-            ),
-        }
-    };
-    assert!(number == 0 || number == 11, "a sane catalogue gives a plan or 11, not {number}");
-    (number == 0).then_some(set[0])
+/// A plan as it came back, but for its table, which is in the buffer.
+#[derive(Clone, Copy)]
+struct Plan {
+    set: u64,
+    cost: [u32; 3],
 }
 
-/// Seconds for the survey: a check of the empty set, which ends at condition 1.
-fn survey(c: &Catalogue, mode: u8, cycles: u8) -> f64 {
-    let (objectives, table, mut condition, mut cost) = ([0u8, 1, 2], vec![255u8; c.slots.len() / 4], [0u8], [0u32; 3]);
-    let start = Instant::now();
-    let number = unsafe {
-        boxplan_check(
-            c.entries.as_ptr(), c.entries.len(), c.slots.as_ptr(), c.slots.len(), c.text.as_ptr(), c.text.len(), 0, mode, cycles, objectives.as_ptr(), 3, 0,
-            table.as_ptr(), table.len(), condition.as_mut_ptr(), 1, cost.as_mut_ptr(), 3,
-        )
-    };
-    let time = start.elapsed().as_secs_f64();
-    assert_eq!((number, condition[0]), (0, 1), "the empty set holds no root");
-    time
-}
-
-/// Seconds for the survey, to the first plan, and to eight plans or the end of the listing.
-fn time(c: &Catalogue, mode: u8, cycles: u8) -> [f64; 3] {
-    let surveyed = survey(c, mode, cycles);
-    let mut plan = vec![0u8; c.slots.len() / 4];
-    let start = Instant::now();
-    let mut last = ask(c, mode, cycles, None, &mut plan);
-    let first = start.elapsed().as_secs_f64();
-    for _ in 1..8 {
-        let Some(set) = last else { break };
-        last = ask(c, mode, cycles, Some(set), &mut plan);
+impl Setting {
+    fn new(digits: &str) -> Setting {
+        let digits: Vec<u8> = digits.bytes().map(|digit| digit - b'0').collect();
+        let [mode, cycles, ref objectives @ ..] = digits[..] else { panic!("a setting is mode, cycles and objectives") };
+        Setting { mode, cycles, objectives: objectives.to_vec() }
     }
-    [surveyed, first, start.elapsed().as_secs_f64()]
+}
+
+impl Catalogue {
+    /// The catalogue that a text holds, and how long the reading took.
+    fn read(text: &[u8]) -> (Catalogue, Duration) {
+        let (mut entries, mut slots, mut counts) = (vec![0u16; 320], vec![0u16; 1024], [0u16; 2]);
+        let start = Instant::now();
+        let number = unsafe { boxplan_read(text.as_ptr(), text.len(), entries.as_mut_ptr(), 320, slots.as_mut_ptr(), 1024, counts.as_mut_ptr(), 2) };
+        let time = start.elapsed();
+        assert_eq!(number, 0, "the catalogue is read");
+        entries.truncate(counts[0] as usize * 5);
+        slots.truncate(counts[1] as usize * 4);
+        (Catalogue { text: text.to_vec(), entries, slots }, time)
+    }
+
+    fn slot_count(&self) -> usize {
+        self.slots.len() / 4
+    }
+
+    /// The first condition that fails, or 0.
+    fn check(&self, setting: &Setting, set: u64, table: &[u8]) -> u8 {
+        let (mut condition, mut cost) = ([0u8], [0u32; 3]);
+        let number = unsafe {
+            boxplan_check(
+                self.entries.as_ptr(), self.entries.len(), self.slots.as_ptr(), self.slots.len(), self.text.as_ptr(), self.text.len(), 0, setting.mode, setting.cycles,
+                setting.objectives.as_ptr(), setting.objectives.len(), set, table.as_ptr(), table.len(), condition.as_mut_ptr(), 1, cost.as_mut_ptr(), 3,
+            )
+        };
+        assert_eq!(number, 0, "a sane catalogue is checked");
+        condition[0]
+    }
+
+    /// The first plan where none is given, else the next after it, whose table the buffer holds.
+    fn ask(&self, setting: &Setting, given: Option<Plan>, buffer: &mut [u8]) -> Option<Plan> {
+        let (mut set, mut cost) = ([0u64], [0u32; 3]);
+        let number = unsafe {
+            match given {
+                None => boxplan_first(
+                    self.entries.as_ptr(), self.entries.len(), self.slots.as_ptr(), self.slots.len(), self.text.as_ptr(), self.text.len(), 0, setting.mode, setting.cycles,
+                    setting.objectives.as_ptr(), setting.objectives.len(), buffer.as_mut_ptr(), buffer.len(), set.as_mut_ptr(), 1, cost.as_mut_ptr(), 3,
+                ),
+                Some(last) => boxplan_next(
+                    self.entries.as_ptr(), self.entries.len(), self.slots.as_ptr(), self.slots.len(), self.text.as_ptr(), self.text.len(), 0, setting.mode, setting.cycles,
+                    setting.objectives.as_ptr(), setting.objectives.len(), last.set, buffer.as_mut_ptr(), buffer.len(), set.as_mut_ptr(), 1, cost.as_mut_ptr(), 3,
+                ),
+            }
+        };
+        assert!(number == 0 || number == 11, "a sane catalogue gives a plan or 11, not {number}");
+        (number == 0).then_some(Plan { set: set[0], cost })
+    }
+
+    /// How many plans come, up to eight. Fewer means that the listing was asked to its end.
+    fn list(&self, setting: &Setting, buffer: &mut [u8]) -> u32 {
+        let (mut plans, mut last) = (0, None);
+        while plans < PLANS {
+            last = self.ask(setting, last, buffer);
+            if last.is_none() {
+                break;
+            }
+            plans += 1;
+        }
+        plans
+    }
+}
+
+/// The median of several times, in seconds.
+fn median(mut once: impl FnMut() -> Duration) -> f64 {
+    let start = Instant::now();
+    let mut times = vec![once()];
+    while times.len() < REPEATS && start.elapsed() < ENOUGH {
+        times.push(once());
+    }
+    times.sort();
+    times[times.len() / 2].as_secs_f64()
+}
+
+/// The median time of a call and what it gave at last. The call is lent a cleared buffer.
+fn timed<T>(slots: usize, mut call: impl FnMut(&mut [u8]) -> T) -> (f64, T, Vec<u8>) {
+    let (mut given, mut buffer) = (None, Vec::new());
+    let time = median(|| {
+        buffer = vec![255; slots];
+        let start = Instant::now();
+        given = Some(call(&mut buffer));
+        start.elapsed()
+    });
+    (time, given.expect("called once at least"), buffer)
+}
+
+/// The survey, the first plan, its cost and its check.
+fn first(catalogue: &Catalogue, name: &str) {
+    let setting = Setting::new(name);
+    let slots = catalogue.slot_count();
+    let (survey, condition, _) = timed(slots, |buffer| catalogue.check(&setting, 0, buffer));
+    assert_eq!(condition, 1, "the empty set holds no root");
+    println!("{name}\tsurvey\t{survey}");
+    let (first, plan, table) = timed(slots, |buffer| catalogue.ask(&setting, None, buffer));
+    println!("{name}\tfirst\t{first}");
+    if let Some(Plan { set, cost: [a, b, c] }) = plan {
+        println!("{name}\tcost\t{a} {b} {c}");
+        let (check, condition, _) = timed(0, |_| catalogue.check(&setting, set, &table));
+        assert_eq!(condition, 0, "the first plan is sound");
+        println!("{name}\tcheck\t{check}");
+    }
+}
+
+/// Eight plans, or all where there are fewer.
+fn eight(catalogue: &Catalogue, name: &str) {
+    let setting = Setting::new(name);
+    let (eight, plans, _) = timed(catalogue.slot_count(), |buffer| catalogue.list(&setting, buffer));
+    println!("{name}\tplans\t{plans}");
+    println!("{name}\teight\t{eight}");
 }
 
 fn main() {
-    let folder = std::env::args().nth(1).expect("bench FOLDER");
-    let mut names: Vec<_> = std::fs::read_dir(folder).expect("a folder").map(|f| f.expect("a file").path()).collect();
-    names.sort();
-    println!("| family | catalogues in six settings | survey: mean | worst | first plan: mean | worst | eight plans: mean | worst |");
-    println!("|---|---|---|---|---|---|---|---|");
-    let mut families: Vec<(String, Vec<[f64; 3]>)> = Vec::new();
-    for name in names {
-        let family = name.file_stem().expect("a name").to_string_lossy().split('-').next().expect("a family").to_string();
-        let c = read(std::fs::read(&name).expect("a catalogue"));
-        let times = (0..6).map(|k| time(&c, k / 2, k % 2));
-        match families.last_mut() {
-            Some((last, all)) if *last == family => all.extend(times),
-            _ => families.push((family, times.collect())),
-        }
-    }
-    for (family, times) in &families {
-        print!("| {family} | {} |", times.len());
-        for k in 0..3 {
-            let mean = (times.iter().map(|t| t[k].ln()).sum::<f64>() / times.len() as f64).exp();
-            let worst = times.iter().map(|t| t[k]).fold(0.0, f64::max);
-            print!(" {:.3} ms | {:.2} ms |", 1e3 * mean, 1e3 * worst);
-        }
-        println!();
+    let arguments: Vec<String> = std::env::args().skip(1).collect();
+    let [what, file, settings @ ..] = &arguments[..] else { panic!("bench first|eight|read FILE SETTING...") };
+    let text = std::fs::read(file).expect("a text");
+    let (catalogue, _) = Catalogue::read(&text);
+    match what.as_str() {
+        "first" => settings.iter().for_each(|name| first(&catalogue, name)),
+        "eight" => settings.iter().for_each(|name| eight(&catalogue, name)),
+        "read" => println!("-\tread\t{}", median(|| Catalogue::read(&text).1)),
+        _ => panic!("there is no measure {what}"),
     }
 }
