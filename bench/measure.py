@@ -59,12 +59,13 @@ def plans_by_functions(path, settings, limit=None):
 
 
 def medians(ask, times):
-    """Asks so often and takes the median of each time."""
-    answers = [ask() for _ in range(times)]
-    found = answers[0]
-    for key in set(found) & {'wall', 'gringo', 'clasp', 'z3'}:
+    """Asks so often, but not again once the limit was hit, and takes the median of each time."""
+    answers = [ask()]
+    while len(answers) < times and answers[-1]['ended']:
+        answers.append(ask())
+    found = answers[-1]
+    for key in set(found) & {'wall', 'gringo', 'clasp'}:
         found[key] = statistics.median(answer[key] for answer in answers)
-    found['ended'] = all(answer['ended'] for answer in answers)
     return found
 
 

@@ -12,10 +12,10 @@ from families import FAMILIES
 
 FASTER, SLOWEST = 100, 0.050
 MODES = ['npm', 'cargo', 'pip']
-COMMAND = '''which builds the C functions and the program, makes the catalogues, takes all times and prints the first tables below. `bench/run N` takes the seeds 1 to N,
-100 if not told; this run took %(seeds)d. What each step of the search is worth, and how deep it goes, stands in [search.md](search.md).'''
-FAMILIES_RUN = '''Three families of catalogues (`bench/families.py`: chain, dense, loose; 64 entries at most, up to 256 slots), seeds 1 to %(seeds)d, in six settings: npm,
-cargo and pip, each with cycles forbidden and allowed; root 0; objectives 0 1 2. That makes %(cases)d cases. All that is compared was run in one go, for each catalogue
+COMMAND = '''which builds the C functions and the program, makes the catalogues, takes all times and prints the first tables below. `bench/run N` takes the seeds 1
+to N, 100 if not told; this run took %(seeds)d. What each step of the search is worth, and how deep it goes, stands in [search.md](search.md).'''
+FAMILIES_RUN = '''Three families of catalogues (`bench/families.py`: chain, dense, loose; 64 entries at most, up to 256 slots), seeds 1 to %(seeds)d, in six settings:
+npm, cargo and pip, each with cycles forbidden and allowed; root 0; objectives 0 1 2. That makes %(cases)d cases. All that is compared was run in one go, for each catalogue
 one right after the other.'''
 OWN = '''- boxplan, by the C functions: the first plan, and eight plans (or all, where there are fewer, with the 11 that ends them). A time is wall time from the tables
 and the text: each call surveys the catalogue and reads every constraint anew. It is the median of nine in one process, of fewer where nine would take over a quarter of
@@ -30,8 +30,8 @@ NO_Z3 = '- z3 is not installed here, so nothing was compared with it.'
 SAME_COST = "- Wherever a peer ended, the cost that it found was the cost of boxplan's plan 1, or both found none: the command stops where they differ."
 PROGRAM = '''The program `boxplan` on the same texts (cargo, cycles forbidden; it prints up to eight plans), wall time from its start to its exit, the median of
 %(repeats)d. `true`, which does nothing, is started and timed alike.'''
-HARD = '''Made to be hard, for boxplan or for others (`bench/hard.py`), in growing sizes up to 64 entries. Each was run by itself with a limit of %(hard_limit)d s: boxplan
-once for the first plan and once for eight, each peer for one best plan. Where many plans cost the same, boxplan finds the one with the least table, which the peers are
+HARD = '''Made to be hard, for boxplan or for others (`bench/hard.py`), in growing sizes up to 64 entries. Each was run by itself with a limit of %(hard_limit)d s:
+boxplan once for the first plan and once for eight, each peer for one best plan. Where many plans cost the same, boxplan finds the one with the least table, which the peers are
 not asked for. Peers' times are CPU times.'''
 
 
@@ -137,6 +137,11 @@ def own_times(times):
     return ['## boxplan by the C functions', '', 'Means are geometric.', ''] + table(head, rows)
 
 
+def limit_words(stopped, times):
+    counted = '; it counts as the time that was taken till then' if stopped else ''
+    return ['%s of %d cases hit the limit of %d s%s.' % (stopped or 'None', len(times.plans), times.run['limit'], counted), '']
+
+
 def beside_clasp(times):
     if not times.clasp:
         return []
@@ -156,7 +161,7 @@ def beside_clasp(times):
                     rows)
             + ['In how many cases boxplan is the slower one, by what it is held against:', '']
             + table(['family', 'cases', 'CPU of both: first', 'eight', 'wall of both: first', 'eight', 'CPU of clasp alone: first', 'eight'], counts)
-            + ['%s hit the limit of %d s.' % (stopped or 'None', times.run['limit']), ''])
+            + limit_words(stopped, times))
 
 
 def beside_z3(times):
@@ -168,7 +173,7 @@ def beside_z3(times):
         taken, found = [row['z3_z3'] for row in some], ratios(some, 'first', lambda row: row['z3_z3'])
         rows.append([name, shown(mean(taken)), shown(max(taken)), '%.0f' % mean(found), '%.1f' % min(found)])
     return (['## Beside z3', ''] + table(['family', 'CPU: mean', 'worst', 'first plan is faster: mean', 'worst'], rows)
-            + ['%s hit the limit of %d s.' % (stopped or 'None', times.run['limit']), ''])
+            + limit_words(stopped, times))
 
 
 def program(times):
