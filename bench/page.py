@@ -14,25 +14,27 @@ FASTER, SLOWEST = 100, 0.050
 MODES = ['npm', 'cargo', 'pip']
 COMMAND = '''which builds the C functions and the program, makes the catalogues, takes all times and prints the first tables below. `bench/run N` takes the seeds 1
 to N, 100 if not told; this run took %(seeds)d. What each step of the search is worth, and how deep it goes, stands in [search.md](search.md).'''
-FAMILIES_RUN = '''Three families of catalogues (`bench/families.py`: chain, dense, loose; 64 entries at most, up to 256 slots), seeds 1 to %(seeds)d, in six settings:
-npm, cargo and pip, each with cycles forbidden and allowed; root 0; objectives 0 1 2. That makes %(cases)d cases. All that is compared was run in one go, for each catalogue
-one right after the other.'''
-OWN = '''- boxplan, by the C functions: the first plan, and eight plans (or all, where there are fewer, with the 11 that ends them). A time is wall time from the tables
-and the text: each call surveys the catalogue and reads every constraint anew. It is the median of nine in one process, of fewer where nine would take over a quarter of
-a second. Buffers were cleared before each, outside the clock: the plan buffer filled with 255, the tables of read with 0.'''
+FAMILIES_RUN = '''Three families of catalogues (`bench/families.py`: chain, dense, loose; 64 entries at most, up to 256 slots), seeds 1 to %(seeds)d, in six
+settings: npm, cargo and pip, each with cycles forbidden and allowed; root 0; objectives 0 1 2. That makes %(cases)d cases. All that is compared was run in one go,
+for each catalogue one right after the other.'''
+OWN = '''- boxplan, by the C functions: the first plan, and eight plans (or all, where there are fewer, with the 11 that ends them). A time is wall time from the
+tables and the text: each call surveys the catalogue and reads every constraint anew. It is the median of nine in one process, of fewer where nine would take over a
+quarter of a second. Buffers were cleared first, outside the clock: for each of the nine the plan buffer was filled with 255, and the tables of read with 0. Between
+the eight plans the buffer keeps the plan before, as next wants it.'''
 SURVEY = '- The survey alone is a check of the empty set, which ends at condition 1; check is that of plan 1.'
-CLASP = '''- gringo and clasp, the one piped into the other, with no options that bear on the search and a limit of %(limit)d s: the cost of one best plan, proved best;
-not the least table, nor a second plan. CPU time is that of both processes, wall time from the start of the first to the end of both; the median of %(repeats)d runs.'''
+CLASP = '''- gringo and clasp, the one piped into the other, with no options that bear on the search and a limit of %(limit)d s: the cost of one best plan, proved
+best; not the least table, nor a second plan. CPU time is that of both processes, wall time from the start of the first to the end of both; the median of
+%(repeats)d runs.'''
 NO_CLASP = '- gringo and clasp are not both installed here, so nothing was compared with them.'
-Z3 = '''- z3, its optimiser, asked for the same by `assert-soft`, with ranks where cycles are forbidden, always with objectives 0 1 2: run once, CPU time, a limit of
-%(limit)d s.'''
+Z3 = '''- z3, its optimiser, asked for the same by `assert-soft`, with ranks where cycles are forbidden, always with objectives 0 1 2: run once, CPU time, a limit
+of %(limit)d s.'''
 NO_Z3 = '- z3 is not installed here, so nothing was compared with it.'
-SAME_COST = "- Wherever a peer ended, the cost that it found was the cost of boxplan's plan 1, or both found none: the command stops where they differ."
+SAME_COST = "- Wherever boxplan and a peer both ended, the peer's cost was that of plan 1, or neither found a plan: the command stops where they differ."
 PROGRAM = '''The program `boxplan` on the same texts (cargo, cycles forbidden; it prints up to eight plans), wall time from its start to its exit, the median of
 %(repeats)d. `true`, which does nothing, is started and timed alike.'''
 HARD = '''Made to be hard, for boxplan or for others (`bench/hard.py`), in growing sizes up to 64 entries. Each was run by itself with a limit of %(hard_limit)d s:
-boxplan once for the first plan and once for eight, each peer for one best plan. Where many plans cost the same, boxplan finds the one with the least table, which the peers are
-not asked for. Peers' times are CPU times.'''
+boxplan once for the first plan and once for eight, each peer for one best plan. Where many plans cost the same, boxplan finds the one with the least table, which
+the peers are not asked for. Peers' times are CPU times.'''
 
 
 def shown(seconds):
