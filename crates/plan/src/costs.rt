@@ -23,7 +23,7 @@ fn nameable(entries: &[u16]) -> u32
 }
 
 // The sum of the members' weights.
-fn weight(entries: &[u16], set: u64) -> u32
+pub fn weight(entries: &[u16], set: u64) -> u32
     ensures { λ r. ⌜ ((slots objectives fits : List ℕ) (settings : Setting) → r ≡ weightOf (tabled (now (entries .entry)) slots settings objectives fits) set) ⌝ }
 {
     let n = nameable(entries);

@@ -52,7 +52,7 @@ module _ (p : Problem) (set : ℕ) where
   third-number = by-code 2
 
   module _ (modest : Modest p) where
-    light : weightOf p set < 4194304
+    pub light : weightOf p set < 4194304
     unfolding weightOf
     light = bound (p .entries) (modest .entries) (over-bound (p .weight) set (p .entries) 65535 (modest .weight))
       where

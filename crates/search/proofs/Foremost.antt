@@ -1,4 +1,5 @@
--- A search of the node that all plans are inside of, below a bound, gives the least plan that is asked for, or says that none is below the bound.
+-- A search of a node that all plans asked for are inside of, below a bound, gives the least of them, or says that none is below the bound. The node of the root alone is
+-- such a node, and narrowing it leaves one.
 use mathlib.Core.Path.{_≡_, refl, sym, ap, _∙_, subst}
 use mathlib.Core.Bool.{Bool, true, false, true≢false}
 use mathlib.Core.List.{List}
@@ -12,26 +13,16 @@ use Rattle.bitset.proofs.Sets.{none-in-empty}
 use Rattle.pacsolve.specs.declared.Cost.{Cost}
 use Rattle.pacsolve.specs.Problem.{Problem}
 use Rattle.pacsolve.specs.Plan.{Plan, plan, chosen}
-use Rattle.pacsolve.specs.Listing.{Good, Asked, Least}
+use Rattle.pacsolve.specs.Listing.{Good, Asked, Wanted, Least}
+use Rattle.pacsolve.specs.Order.{lower}
 use Rattle.node.specs.declared.Best.{Best}
 use Rattle.node.specs.declared.Node.{Node}
 use Rattle.node.specs.Sought.{Limit, under, before, Inside, limitOf, askedOf}
-use Rattle.node.specs.Narrowing.{Ready}
-use Rattle.search.specs.Walks.{Tightened, same, better, Searched}
-use Rattle.search.specs.Walks.{Walked}
-use Rattle.search.specs.Found.{Posed, NoneUnder, FoundUnder, none-under, found-least}
+use Rattle.node.specs.Narrowing.{Ready, Narrowed}
+use Rattle.search.specs.Walks.{Tightened, same, better, Searched, Walked}
+use Rattle.search.specs.Found.{Posed, Whole, Above, firstly, NoneUnder, FoundUnder, none-under, found-least}
 
-module _ (p : Problem) (q : Asked) (must : ℕ) (choices : List ℕ) (only-root : (e : ℕ) → Member must e → e ≡ p .root)
-    (all-fits : (s e : ℕ) → s < p .slots → e < p .entries → p .fits s e → Member (getD choices s 0) e) where
-  -- every good plan is inside
-  all-inside : (P : Plan) → Good p P → Inside p must 0 choices P
-  all-inside P g =
-      record {
-        has = λ e m. rw (only-root e m) (g .sound .rooted .root);
-        lacks = λ e m. absurd (none-in-empty e m);
-        names = λ s h m. let f = g .sound .fitting s h m in all-fits s (chosen P s) h (f .0) (f .1);
-      }
-
+module _ (p : Problem) (q : Asked) (must ban : ℕ) (choices : List ℕ) (all-inside : (P : Plan) → Good p P → Wanted p q P → Inside p must ban choices P) where
   Is-under : Limit → Type 0
   Is-under (under c) = Unit {0}
   Is-under (before P) = ⊥
@@ -41,10 +32,10 @@ module _ (p : Problem) (q : Asked) (must : ℕ) (choices : List ℕ) (only-root 
   bound-of (under c) d = c
   bound-of (before P) d = d
 
-  pub searched-none-under : (c d : Cost) → Searched p q (under c) must 0 choices (under d) → NoneUnder p q c
+  searched-none-under : (c d : Cost) → Searched p q (under c) must ban choices (under d) → NoneUnder p q c
   unfolding bound-of Is-under
   searched-none-under c d s Q g w b =
-      s .spent Q (record { good = g; wanted = w; below = rw (same-bound (s .tightened)) b; inside = all-inside Q g })
+      s .spent Q (record { good = g; wanted = w; below = rw (same-bound (s .tightened)) b; inside = all-inside Q g w })
     where
       same-bound : Tightened p q (under c) (under d) → d ≡ c
       same-bound (same e) = ap (λ (l : Limit). bound-of l c) e
@@ -58,7 +49,7 @@ module _ (p : Problem) (q : Asked) (must : ℕ) (choices : List ℕ) (only-root 
   Is-before (under c) = ⊥
   Is-before (before P) = Unit {0}
 
-  pub searched-least : (c : Cost) (P : Plan) → Searched p q (under c) must 0 choices (before P) → Least p q P
+  searched-least : (c : Cost) (P : Plan) → Searched p q (under c) must ban choices (before P) → Least p q P
   unfolding plan-of Is-before
   searched-least c P s = go (s .tightened)
     where
@@ -69,17 +60,13 @@ module _ (p : Problem) (q : Asked) (must : ℕ) (choices : List ℕ) (only-root 
           record {
             good = rw its g;
             wanted = rw its w;
-            least = λ Q h v k. s .spent Q (record { good = h; wanted = v; below = k; inside = all-inside Q h });
+            least = λ Q h v k. s .spent Q (record { good = h; wanted = v; below = k; inside = all-inside Q h v });
           }
 
--- the same for the tables of a catalogue: the walk from the root alone, with the sets of the entries that fit
-module _ (p : Problem) (given : Best) (past buffer : List ℕ) (posed : Posed p given past buffer) (node : Node) (with-root : With 0 (p .root) (node .must)) (nothing : Best)
-    (none-yet : nothing .found ≡ false) where
-  small : p .root < 64
-  small = omega (arith, posed .root, posed .entries)
-
-  pub start-ready : Ready p given past node nothing buffer
-  start-ready =
+-- the best so far is none, and its cost a bound
+module _ (p : Problem) (given : Best) (past buffer : List ℕ) (posed : Posed p given past buffer) (nothing : Best) (none-yet : nothing .found ≡ false) where
+  rooted-ready : (node : Node) → Member (node .must) (p .root) → Ready p given past node nothing buffer
+  rooted-ready node rooted =
       record {
         entries = posed .entries;
         slots = posed .slots;
@@ -87,22 +74,63 @@ module _ (p : Problem) (given : Best) (past buffer : List ℕ) (posed : Posed p 
         plan-sized = posed .plan-sized;
         given-costed = posed .given-costed;
         best-costed = λ e. absurd (true≢false (sym e ∙ none-yet));
-        rooted = with-root .members small (p .root) .1 (inl refl);
+        rooted = rooted;
       }
 
-  root-only : (e : ℕ) → Member (node .must) e → e ≡ p .root
-  root-only e m = go (with-root .members small e .0 m)
-    where
-      go : (e ≡ p .root) ⊎ Member 0 e → e ≡ p .root
-      go (inl h) = h
-      go (inr h) = absurd (none-in-empty e h)
+  -- the node that a round begins with
+  module _ (node : Node) (choices : List ℕ) (whole : Whole p (askedOf given past) node choices) where
+    pub whole-ready : Ready p given past node nothing buffer
+    whole-ready = rooted-ready node (whole .rooted)
 
-  pub found-by : (choices : List ℕ) → ((s e : ℕ) → s < p .slots → e < p .entries → p .fits s e → Member (getD choices s 0) e) → node .ban ≡ 0 → (r : Best) (buffer′ : List ℕ)
-      → Walked p given past node choices nothing buffer r buffer′ → FoundUnder p (askedOf given past) (nothing .cost) buffer r buffer′
-  found-by choices all-fits free r buffer′ w = go (r .found) refl (rw (none-yet, free) at (w .searched)) (w .written)
-    where
-      go : (b : Bool) → r .found ≡ b → Searched p (askedOf given past) (under (nothing .cost)) (node .must) 0 choices (limitOf r buffer′)
-          → (r .found ≡ true) ⊎ ((buffer′ ≡ buffer) × (r .found ≡ nothing .found)) → FoundUnder p (askedOf given past) (nothing .cost) buffer r buffer′
-      go true e s x = found-least e (searched-least p (askedOf given past) (node .must) choices root-only all-fits (nothing .cost) (plan (r .set) buffer′) (rw e at s)) (w .costed e)
-      go false e s (inl x) = absurd (true≢false (sym x ∙ e))
-      go false e s (inr x) = none-under e (searched-none-under p (askedOf given past) (node .must) choices root-only all-fits (nothing .cost) (r .cost) (rw e at s)) (x .0)
+    all-inside : (P : Plan) → Good p P → Wanted p (askedOf given past) P → Inside p (node .must) (node .ban) choices P
+    all-inside P g w = whole .whole P g w .1
+
+    pub found-by : (r : Best) (buffer′ : List ℕ) → Walked p given past node choices nothing buffer r buffer′
+        → FoundUnder p (askedOf given past) (nothing .cost) buffer r buffer′
+    found-by r buffer′ w = go (r .found) refl (rw none-yet at (w .searched)) (w .written)
+      where
+        go : (b : Bool) → r .found ≡ b → Searched p (askedOf given past) (under (nothing .cost)) (node .must) (node .ban) choices (limitOf r buffer′)
+            → (r .found ≡ true) ⊎ ((buffer′ ≡ buffer) × (r .found ≡ nothing .found)) → FoundUnder p (askedOf given past) (nothing .cost) buffer r buffer′
+        go true e s x =
+            found-least e
+            (searched-least p (askedOf given past) (node .must) (node .ban) choices all-inside (nothing .cost) (plan (r .set) buffer′) (rw e at s))
+            (w .costed e)
+        go false e s (inl x) = absurd (true≢false (sym x ∙ e))
+        go false e s (inr x) =
+            none-under e (searched-none-under p (askedOf given past) (node .must) (node .ban) choices all-inside (nothing .cost) (r .cost) (rw e at s)) (x .0)
+
+  -- the node of the root alone
+  module _ (node : Node) (with-root : With 0 (p .root) (node .must)) where
+    small : p .root < 64
+    small = omega (arith, posed .root, posed .entries)
+
+    has-root : Member (node .must) (p .root)
+    has-root = with-root .members small (p .root) .1 (inl refl)
+
+    pub start-ready : Ready p given past node nothing buffer
+    start-ready = rooted-ready node has-root
+
+    root-only : (e : ℕ) → Member (node .must) e → e ≡ p .root
+    root-only e m = go (with-root .members small e .0 m)
+      where
+        go : (e ≡ p .root) ⊎ Member 0 e → e ≡ p .root
+        go (inl h) = h
+        go (inr h) = absurd (none-in-empty e h)
+
+    -- every good plan is inside, so what narrowing leaves of it below a bound above every cost is whole
+    pub start-whole : (choices : List ℕ) → ((s e : ℕ) → s < p .slots → e < p .entries → p .fits s e → Member (getD choices s 0) e) → node .ban ≡ 0 → (top : ℕ)
+        → nothing .cost ≡ firstly top → Above p top → {r : Node} {left : List ℕ} → Narrowed p given past nothing buffer node choices r left
+        → Whole p (askedOf given past) r left
+    start-whole choices all-fits free top bound above n =
+        record {
+          rooted = n .fewer .more (p .root) has-root;
+          whole = λ P g w. n .keeps P (record { good = g; wanted = w; below = rw (none-yet, bound) (lower (above (P .set))); inside = inside P g });
+        }
+      where
+        inside : (P : Plan) → Good p P → Inside p (node .must) (node .ban) choices P
+        inside P g =
+            record {
+              has = λ e m. rw (root-only e m) (g .sound .rooted .root);
+              lacks = λ e m. absurd (none-in-empty e (rw free at m));
+              names = λ s h m. let f = g .sound .fitting s h m in all-fits s (chosen P s) h (f .0) (f .1);
+            }

@@ -1,25 +1,32 @@
 -- Rounds of the search: a plan that a round finds is the least of all, and where the last round finds none there is none, since its bound is above every cost.
-use mathlib.Core.Path.{_≡_, sym, _∙_}
+use mathlib.Core.Path.{_≡_, refl, sym, ap, _∙_}
 use mathlib.Core.Bool.{true, false, true≢false}
 use mathlib.Core.List.{List}
-use Prim.Native.Nat.{ℕ, zero, suc, _+_, _*_, _≤_, _<_}
+use mathlib.Core.Logic.{_⊎_, inl, inr}
+use Prim.Native.Nat.{ℕ, zero, suc, _+_, _-_, _*_, _≤_, _<_, _^_}
 use native.Mathlib.Omega.{arith}
+use native.Mathlib.Nat.{mul-le-mul-right}
 use lib.ListN.{getD}
+use Rattle.basis.proofs.Sums.{sum-mono}
+use Rattle.bitset.specs.Bits.{bit}
+use Rattle.bitset.proofs.Made.{bit-rest}
+use Rattle.bitset.proofs.Sets.{bit-of-none, none-in-empty}
 use Rattle.pacsolve.specs.declared.Cost.{Cost}
 use Rattle.pacsolve.specs.Problem.{Problem}
-use Rattle.pacsolve.specs.Cost.{cost, numbers}
+use Rattle.pacsolve.specs.Cost.{weightOf, amount}
 use Rattle.pacsolve.specs.Listing.{Asked}
-use Rattle.pacsolve.specs.Order.{Earlier, lower}
+use Rattle.pacsolve.specs.Order.{lower}
 use Rattle.catalogue.specs.declared.Settings.{Settings}
 use Rattle.catalogue.specs.Survey.{tabled}
 use Rattle.price.specs.declared.Scale.{Scale}
-use Rattle.price.specs.Worth.{codeAt, spanOf, Scaled, BasePrices}
+use Rattle.price.specs.Worth.{codeAt, Scaled, BasePrices}
 use Rattle.price.proofs.Bounds.{base-small}
 use Rattle.price.proofs.Worth.{Modest, first-number, in-span, scaled-small}
 use Rattle.node.specs.declared.Best.{Best}
+use Rattle.node.specs.declared.Node.{Node}
 use Rattle.node.specs.Clashing.{Clashes, Alikes}
 use Rattle.node.specs.Facts.{Facts}
-use Rattle.search.specs.Found.{Posed, firstly, Found, none-left, the-least, FoundUnder, none-under, found-least}
+use Rattle.search.specs.Found.{Posed, Whole, Above, firstly, Found, none-left, the-least, FoundUnder, none-under, found-least}
 
 module _ {p : Problem} {q : Asked} {c : Cost} {buffer₀ buffer : List ℕ} {r : Best} {buffer′ : List ℕ} (same : buffer ≡ buffer₀) where
   pub found-in-round : r .found ≡ true → FoundUnder p q c buffer r buffer′ → Found p q buffer₀ r buffer′
@@ -31,19 +38,47 @@ module _ {p : Problem} {q : Asked} {c : Cost} {buffer₀ buffer : List ℕ} {r :
   none-in-round f (none-under e n k) = k ∙ same
   none-in-round f (found-least e l k) = absurd (true≢false (sym e ∙ f))
 
-span-most : (code : ℕ) → spanOf code ≤ 4194304
-span-most zero = omega arith
-span-most (suc code) = omega arith
+-- a bound that is not yet the top has risen
+pub risen : (bound more : ℕ) {top r : ℕ} → (r ≡ top) ⊎ ((r ≡ bound + more) × (r < top)) → ¬ (r ≡ top) → (r ≡ bound + more) × (r < top)
+risen bound more (inl e) n = absurd (n e)
+risen bound more (inr h) n = h
 
--- every cost is below the last bound
-below-last : (p : Problem) → Modest p → (set : ℕ) → Earlier (numbers (cost p set)) (numbers (firstly 4194304))
-below-last p modest set =
-    let first : cost p set .first < 4194304 = omega (arith, first-number p set, in-span p set modest (codeAt (p .objectives) 0), span-most (codeAt (p .objectives) 0)) in lower first
+-- the last round, whose bound is above every cost
+pub found-at-last : {p : Problem} {q : Asked} {bound top : ℕ} {buffer₀ buffer : List ℕ} {r : Best} {buffer′ : List ℕ} → Above p top → bound ≡ top → buffer ≡ buffer₀
+    → FoundUnder p q (firstly bound) buffer r buffer′ → Found p q buffer₀ r buffer′
+found-at-last above last same (none-under e n k) = none-left e (λ Q good wanted. n Q good wanted (rw last (lower (above (Q .set))))) (k ∙ same)
+found-at-last above last same (found-least e l k) = the-least e l k
 
-pub found-at-last : {p : Problem} {q : Asked} {buffer₀ buffer : List ℕ} {r : Best} {buffer′ : List ℕ} → Modest p → buffer ≡ buffer₀
-    → FoundUnder p q (firstly 4194304) buffer r buffer′ → Found p q buffer₀ r buffer′
-found-at-last {p} modest same (none-under e n k) = none-left e (λ Q good wanted. n Q good wanted (below-last p modest (Q .set))) (k ∙ same)
-found-at-last modest same (found-least e l k) = the-least e l k
+-- a node that is not alive has no plan
+pub found-none : {p : Problem} {q : Asked} {node : Node} {choices : List ℕ} {r : Best} {buffer : List ℕ} → Whole p q node choices → node .alive ≡ false → r .found ≡ false
+    → Found p q buffer r buffer
+found-none whole dead none = none-left none (λ Q good wanted. true≢false (sym (whole .whole Q good wanted .0) ∙ dead)) refl
+
+-- the set of all 64 entries
+abbrev everything : ℕ
+everything = 2 ^ 64 - 1 - 0
+
+-- the weights of all entries together, and what the other numbers stay below
+module _ (p : Problem) (modest : Modest p) where
+  in-everything : (e : ℕ) → e < p .entries → bit everything e ≡ 1
+  in-everything e h =
+      bit-rest 64 0 e (omega arith) (omega (arith, modest .entries)) ∙ ap (λ (b : ℕ). 1 - b) (bit-of-none 0 e (none-in-empty e))
+
+  heaviest : (set : ℕ) → weightOf p set ≤ weightOf p everything
+  unfolding weightOf
+  heaviest set =
+      sum-mono (λ e. bit set e * p .weight e) (λ e. bit everything e * p .weight e) (p .entries) (λ e h. rw (in-everything e h) (mul-le-mul-right (p .weight e) (bit-le e)))
+    where
+      bit-le : (e : ℕ) → bit set e ≤ 1
+      bit-le e = omega arith
+
+  under-span : (set code : ℕ) → amount p set code < weightOf p everything + 128
+  unfolding amount
+  under-span set zero = omega (arith, heaviest set)
+  under-span set (suc code) = let h = in-span p set modest (suc code) in omega (arith, h)
+
+  pub above-all : Above p (weightOf p everything + 128)
+  above-all set = rw (first-number p set) (under-span set (codeAt (p .objectives) 0))
 
 -- what is posed for a buffer is posed for an equal one
 pub posed-again : {p : Problem} {given : Best} {past buffer₀ buffer : List ℕ} → buffer ≡ buffer₀ → Posed p given past buffer₀ → Posed p given past buffer

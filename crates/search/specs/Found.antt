@@ -4,6 +4,7 @@ use mathlib.Core.Bool.{true, false}
 use mathlib.Core.List.{List}
 use Prim.Native.Nat.{ℕ, _≤_, _<_}
 use lib.ListN.{length}
+use Rattle.bitset.specs.Bits.{Member}
 use Rattle.pacsolve.specs.Problem.{Problem}
 use Rattle.pacsolve.specs.Plan.{Plan, plan}
 use Rattle.pacsolve.specs.declared.Cost.{Cost}
@@ -12,7 +13,8 @@ use Rattle.pacsolve.specs.Order.{Earlier}
 use Rattle.pacsolve.specs.Listing.{Good, Asked, Wanted, Least, NoneLeft}
 use Rattle.price.specs.Worth.{Apart}
 use Rattle.node.specs.declared.Best.{Best}
-use Rattle.node.specs.Sought.{Costed}
+use Rattle.node.specs.declared.Node.{Node}
+use Rattle.node.specs.Sought.{Inside, Costed}
 
 -- what the search for the least plan is handed
 pub record Posed (p : Problem) (given : Best) (past buffer : List ℕ) : Type 0 where
@@ -23,6 +25,15 @@ pub record Posed (p : Problem) (given : Best) (past buffer : List ℕ) : Type 0 
   pub past-sized : length past ≡ p .slots
   pub plan-sized : length buffer ≡ p .slots
   pub given-costed : Costed p given
+
+-- a node that every plan asked for is inside of; where it is not alive there is none
+pub record Whole (p : Problem) (q : Asked) (node : Node) (choices : List ℕ) : Type 0 where
+  pub rooted : Member (node .must) (p .root)
+  pub whole : (P : Plan) → Good p P → Wanted p q P → (node .alive ≡ true) × Inside p (node .must) (node .ban) choices P
+
+-- more than the first number of any cost
+abbrev pub Above : Problem → ℕ → Type 0
+Above p bound = (set : ℕ) → cost p set .first < bound
 
 -- THE PROMISE of the search: the least plan of those asked for, with its cost and its table in the buffer; or that none is left, and the buffer as it was
 pub data Found (p : Problem) (q : Asked) (buffer : List ℕ) (r : Best) (buffer′ : List ℕ) : Type 0 where
