@@ -8,4 +8,5 @@ pub mod Names
 pub mod Totals
 pub mod Order
 pub mod Sets
+pub mod Spanned
 pub mod Surveyed

@@ -5,3 +5,4 @@ pub mod Gives
 pub mod Survey
 pub mod Parts
 pub mod Steps
+pub mod Spans

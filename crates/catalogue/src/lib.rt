@@ -7,6 +7,7 @@ mod packing;
 mod refusals;
 mod setup;
 mod slots;
+pub mod spans;
 mod weights;
 
 // The settings of a call (document 01, "The lent tables"). Every value is taken: one outside the rules is refused by its number.

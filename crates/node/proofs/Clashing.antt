@@ -1,21 +1,22 @@
--- Rows of entries, made bit by bit and stored one after the other, over any relation; and the two relations that the rows of a call have.
-use mathlib.Core.Path.{_≡_, refl, sym, _∙_}
-use mathlib.Core.Bool.{Bool, true, false, true≢false}
+-- Rows of entries, made bit by bit and stored one after the other, over any relation; what two rows share; and the rows of a call.
+use mathlib.Core.Path.{_≡_, sym, _∙_}
 use mathlib.Core.List.{List}
 use mathlib.Core.Logic.{_⊎_, _↔_, inl, inr}
 use Prim.Native.Nat.{ℕ, _+_, _≤_, _<_}
-use native.Mathlib.Decide.{ℕ-discrete, decLt}
+use native.Mathlib.Decide.{ℕ-discrete}
 use native.Mathlib.Nat.{not-suc-le-zero}
 use native.Mathlib.Omega.{arith}
+use lib.Bits.{bitAnd}
 use lib.ListN.{length, getD, set, length-set, replicate, length-replicate}
 use Rattle.bitset.specs.Bits.{Member}
 use Rattle.bitset.specs.Changes.{With, Without}
+use Rattle.bitset.proofs.Made.{meet-members}
 use Rattle.bitset.proofs.Sets.{none-in-empty}
 use Rattle.catalogue.specs.Gives.{cargo, pip}
 use Rattle.plan.specs.Pairs.{field, Beside}
 use Rattle.plan.proofs.Closing.{stored-here, stored-elsewhere}
 use Rattle.plan.proofs.Trails.{fresh-none}
-use Rattle.node.specs.Clashing.{Placed, Row, Rows, Apart, Clashes, Alikes}
+use Rattle.node.specs.Clashing.{Placed, Row, Rows, Both, Shared, Clashes, Alikes}
 
 -- a row of those below f
 pub record Upto (Q : ℕ → Type 0) (f row : ℕ) : Type 0 where
@@ -65,19 +66,22 @@ module _ (entries : List ℕ) (R : ℕ → ℕ → Type 0) where
   rows-none =
       record { sized = length-replicate {A = ℕ} 64 0; only = λ e f m. absurd (fresh-none e f m); all = λ e f l. absurd (not-suc-le-zero l) }
 
-  pub rows-more : {n v : ℕ} {rows : List ℕ} → n < 64 → RowsTo n rows → Row entries (R n) v → RowsTo (n + 1) (set rows n v)
-  rows-more {n} {v} {rows} l t row =
+  -- what is stored holds only entries that stand in the relation, and of placed ones all
+  pub rows-more :
+      {n : ℕ} {rows : List ℕ} (v : ℕ) → n < 64 → RowsTo n rows → ((f : ℕ) → Member v f → R n f) → ((f : ℕ) → Placed entries f → R n f → Member v f)
+      → RowsTo (n + 1) (set rows n v)
+  rows-more {n} {rows} v l t into from =
       record { sized = length-set rows n v ∙ t .sized; only = λ e f m. only e f m (ℕ-discrete e n); all = λ e f h p r. all e f h p r (ℕ-discrete e n) }
     where
       here : n < length rows
       here = omega (arith, t .sized)
 
       only : (e f : ℕ) → Member (getD (set rows n v) e 0) f → Dec (e ≡ n) → R e f
-      only e f m (yes same) = rw same (row .holds f .0 (stored-here rows n v here e f same .0 m) .1)
+      only e f m (yes same) = rw same (into f (stored-here rows n v here e f same .0 m))
       only e f m (no other) = t .only e f (stored-elsewhere rows n v e f other .0 m)
 
       all : (e f : ℕ) → e < n + 1 → Placed entries f → R e f → Dec (e ≡ n) → Member (getD (set rows n v) e 0) f
-      all e f h p r (yes same) = stored-here rows n v here e f same .1 (row .holds f .1 (p, rw same at r))
+      all e f h p r (yes same) = stored-here rows n v here e f same .1 (from f p (rw same at r))
       all e f h p r (no other) = stored-elsewhere rows n v e f other .1 (t .all e f (omega arith) p r)
 
   pub rows-end : {n : ℕ} {rows : List ℕ} → ((e : ℕ) → Placed entries e → e < n) → RowsTo n rows → Rows entries R rows
@@ -87,47 +91,64 @@ module _ (entries : List ℕ) (R : ℕ → ℕ → Type 0) where
   pub rows-empty : ((e f : ℕ) → ¬ R e f) → Rows entries R (replicate 64 0)
   rows-empty none = record { sized = rows-none .sized; only = rows-none .only; all = λ e f p q r. absurd (none e f r) }
 
-  -- the same relation in other words
-  pub rows-by : {S : ℕ → ℕ → Type 0} {rows : List ℕ} → ((e f : ℕ) → R e f ↔ S e f) → Rows entries R rows → Rows entries S rows
-  rows-by same t = record { sized = t .sized; only = λ e f m. same e f .0 (t .only e f m); all = λ e f p q s. t .all e f p q (same e f .1 s) }
+-- of what two rows share, the rows below n are stored
+abbrev pub SharedTo : List ℕ → List ℕ → ℕ → List ℕ → Type 0
+SharedTo one other n rows = (entries : List ℕ) → RowsTo entries (Both one other) n rows
 
-module _ (entries : List ℕ) (mode : ℕ) (itself : Bool) (e row : ℕ) (apart : Row entries (λ f. ¬ Beside entries mode e f) row) where
-  pub row-itself : itself ≡ true → Row entries (Apart entries mode itself e) row
-  row-itself t =
-      record {
-        holds = λ f. (λ m. let x = apart .holds f .0 m in (x .0, (λ n. absurd (true≢false (sym t ∙ n)), x .1)), λ x. apart .holds f .1 (x .0, x .1 .1));
-      }
-
-  pub row-others : {r : ℕ} → itself ≡ false → Without row e r → Row entries (Apart entries mode itself e) r
-  row-others {r} t w = record { holds = λ f. (λ m. into f m (decLt e 64), λ x. from f x (decLt e 64)) }
-    where
-      into : (f : ℕ) → Member r f → Dec (e < 64) → Placed entries f × Apart entries mode itself e f
-      into f m (yes l) = let x = w .members l f .0 m in let y = apart .holds f .0 (x .0) in (y .0, (λ n same. x .1 (sym same), y .1))
-      into f m (no n) = let y = apart .holds f .0 (rw (w .beyond (omega arith)) at m) in (y .0, (λ z same. n (omega (arith, y .0 .1)), y .1))
-
-      from : (f : ℕ) → Placed entries f × Apart entries mode itself e f → Dec (e < 64) → Member r f
-      from f x (yes l) = w .members l f .1 (apart .holds f .1 (x .0, x .1 .1), λ same. x .1 .0 t (sym same))
-      from f x (no n) = rw (w .beyond (omega arith)) (apart .holds f .1 (x .0, x .1 .1))
-
--- the rows of a call
-pub clashes-by : {entries rows : List ℕ} {mode : ℕ} → Rows entries (Apart entries mode false) rows → Clashes entries mode rows
-clashes-by {entries} {rows} {mode} = rows-by entries (Apart entries mode false) (λ e f. (λ x. (x .0 refl, x .1), λ x. (λ t. x .0, x .1)))
-
--- where the mode is neither cargo nor pip
-pub clashes-none : {entries : List ℕ} {mode : ℕ} → ¬ (mode ≡ cargo) → ¬ (mode ≡ pip) → Clashes entries mode (replicate 64 0)
-clashes-none {entries} {mode} no-cargo no-pip = rows-empty entries _ (λ e f x. x .1 (λ k. record { by-cargo = λ m. absurd (no-cargo m); by-pip = no-pip }))
-
--- under pip two entries may not stand together exactly if they are of one package
-same-package : (entries : List ℕ) (e f : ℕ) → ¬ Beside entries pip e f ↔ (field entries f 0 ≡ field entries e 0)
-same-package entries e f = (λ n. from n (ℕ-discrete (field entries e 0) (field entries f 0)), λ same b. b (sym same) .by-pip refl)
+pub shared-more :
+    {one other rows : List ℕ} {e v : ℕ} → e < 64 → SharedTo one other e rows → Without (bitAnd (getD one e 0) (getD other e 0)) e v
+    → SharedTo one other (e + 1) (set rows e v)
+shared-more {one} {other} {e = e} {v = v} l t w entries = rows-more entries _ v l (t entries) into (λ f p. from f)
   where
-    from : ¬ Beside entries pip e f → Dec (field entries e 0 ≡ field entries f 0) → field entries f 0 ≡ field entries e 0
-    from n (yes same) = sym same
-    from n (no other) = absurd (n (λ same. absurd (other same)))
+    into : (f : ℕ) → Member v f → Both one other e f
+    into f m =
+        let x = w .members l f .0 m in
+        let both = meet-members (getD one e 0) (getD other e 0) f .0 (x .0) in
+        record { in-one = both .0; in-other = both .1; distinct = λ same. x .1 (sym same) }
 
-pub alikes-by : {entries rows : List ℕ} → Rows entries (Apart entries pip true) rows → Alikes entries rows
-alikes-by {entries} {rows} =
-    rows-by entries (Apart entries pip true) (λ e f. (
-      λ x. same-package entries e f .0 (x .1),
-      λ same. (λ t. absurd (true≢false t), same-package entries e f .1 same),
+    from : (f : ℕ) → Both one other e f → Member v f
+    from f x = w .members l f .1 (meet-members (getD one e 0) (getD other e 0) f .1 (x .in-one, x .in-other), λ same. x .distinct (sym same))
+
+-- the rows of a call: what clashes is of one package, and stands in another relation
+clashes-by :
+    {S : ℕ → ℕ → Type 0} {entries one other rows : List ℕ} {mode : ℕ} → ((e f : ℕ) → ((field entries f 0 ≡ field entries e 0) × S e f) ↔ ¬ Beside entries mode e f)
+    → Alikes entries one → Rows entries S other → Shared one other rows → Clashes entries mode rows
+clashes-by {entries = entries} clash a o s =
+    let both = s entries in
+    record {
+      sized = both .sized;
+      only = λ e f m. let x = both .only e f m in (x .distinct, clash e f .0 (a .only e f (x .in-one), o .only e f (x .in-other)));
+      all = λ e f p q x.
+          let y = clash e f .1 (x .1) in
+          both .all e f p q (record { in-one = a .all e f p q (y .0); in-other = o .all e f p q (y .1); distinct = x .0 });
+    }
+
+one-package : (entries : List ℕ) {mode : ℕ} (e f : ℕ) → ¬ Beside entries mode e f → field entries f 0 ≡ field entries e 0
+one-package entries e f n = from (ℕ-discrete (field entries f 0) (field entries e 0))
+  where
+    from : Dec (field entries f 0 ≡ field entries e 0) → field entries f 0 ≡ field entries e 0
+    from (yes same) = same
+    from (no other) = absurd (n (λ same. absurd (other (sym same))))
+
+-- under pip two of one package always clash
+pub clashes-pip : {entries alike rows : List ℕ} {mode : ℕ} → mode ≡ pip → Alikes entries alike → Shared alike alike rows → Clashes entries mode rows
+clashes-pip {entries} m a =
+    clashes-by (λ e f. (λ x b. b (sym (x .0)) .by-pip m, λ n. (one-package entries e f n, one-package entries e f n))) a a
+
+-- under cargo where their majors are one
+pub clashes-cargo :
+    {entries alike majors rows : List ℕ} {mode : ℕ} → mode ≡ cargo → Alikes entries alike → Rows entries (λ e f. field entries f 1 ≡ field entries e 1) majors
+    → Shared alike majors rows → Clashes entries mode rows
+clashes-cargo {entries} {mode = mode} m =
+    clashes-by (λ e f. (
+      λ x b. b (sym (x .0)) .by-cargo m (sym (x .1)),
+      λ n. (one-package entries e f n, from e f n (ℕ-discrete (field entries f 1) (field entries e 1))),
     ))
+  where
+    from : (e f : ℕ) → ¬ Beside entries mode e f → Dec (field entries f 1 ≡ field entries e 1) → field entries f 1 ≡ field entries e 1
+    from e f n (yes same) = same
+    from e f n (no other) = absurd (n (λ k. record { by-cargo = λ c same. other (sym same); by-pip = λ p. omega arith }))
+
+-- where neither is asked for, nothing does
+pub clashes-none : {entries : List ℕ} {mode : ℕ} → ¬ (mode ≡ pip) → ¬ (mode ≡ cargo) → Clashes entries mode (replicate 64 0)
+clashes-none {entries} no-pip no-cargo = rows-empty entries _ (λ e f x. x .1 (λ k. record { by-cargo = λ m. absurd (no-cargo m); by-pip = no-pip }))

@@ -1,6 +1,5 @@
 -- Rows of sets, one for each entry below 64: which entries may not stand beside an entry (condition 5), and which are of its package. What is banned by such rows.
 use mathlib.Core.Path.{_≡_}
-use mathlib.Core.Bool.{Bool, false}
 use mathlib.Core.List.{List}
 use mathlib.Core.Logic.{_⊎_, _↔_}
 use Prim.Native.Nat.{ℕ, _/_, _<_}
@@ -22,9 +21,15 @@ pub record Rows (entries : List ℕ) (R : ℕ → ℕ → Type 0) (rows : List �
   pub only : (e f : ℕ) → Member (getD rows e 0) f → R e f
   pub all : (e f : ℕ) → Placed entries e → Placed entries f → R e f → Member (getD rows e 0) f
 
--- e and f may not stand beside each other; e itself is counted where asked for
-abbrev pub Apart : List ℕ → ℕ → Bool → ℕ → ℕ → Type 0
-Apart entries mode itself e f = (itself ≡ false → ¬ (e ≡ f)) × ¬ Beside entries mode e f
+-- f stands in row e of both, and is not e
+pub record Both (one other : List ℕ) (e f : ℕ) : Type 0 where
+  pub in-one : Member (getD one e 0) f
+  pub in-other : Member (getD other e 0) f
+  pub distinct : ¬ (e ≡ f)
+
+-- row e holds what row e of both others holds, without e: whatever the table, for no entry is looked at
+abbrev pub Shared : List ℕ → List ℕ → List ℕ → Type 0
+Shared one other rows = (entries : List ℕ) → Rows entries (Both one other) rows
 
 -- row e: the entries other than e that may not stand beside it
 abbrev pub Clashes : List ℕ → ℕ → List ℕ → Type 0

@@ -1,11 +1,17 @@
 // Which entries may not stand beside each other (condition 5), and which are of one package: a row of 64 bits for each entry, made once per call.
+use catalogue::fields::entry_field;
 use plan::packages::CARGO;
 use plan::packages::PIP;
-use plan::packages::beside;
 ghost use mathlib.Core.Logic.{_↔_};
+ghost use mathlib.Core.Path.{_≡_};
 ghost use Prim.Native.Nat.{ℕ, _≤_, _<_};
-ghost use Rattle.plan.specs.Pairs.{Beside};
-ghost use Rattle.node.specs.Clashing.{Placed, Row, Rows, Apart, Clashes, Alikes};
+ghost use Rattle.plan.specs.Pairs.{field};
+ghost use Rattle.node.specs.Clashing.{Placed, Row, Rows, Shared, Clashes, Alikes};
+
+// The fields of an entry that decide a clash.
+const PACKAGE: usize = 0;
+
+const MAJOR: usize = 1;
 
 // How many entries there are that a set has a place for.
 fn placed(entries: &[u16]) -> u32
@@ -18,15 +24,17 @@ fn placed(entries: &[u16]) -> u32
     64
 }
 
-// The entries that may not stand beside e; e is one of them where its package may have no other.
-fn apart(entries: &[u16], mode: u8, e: u32) -> u64
-    ensures { λ r. ⌜ Row (now (entries .entry)) (λ f. ¬ Beside (now (entries .entry)) mode e f) r ⌝ }
+// The entries whose field k is that of e. A placed entry is whole, so its fields are read without a test of the table's end.
+fn equal_row(entries: &[u16], k: usize, e: u32) -> u64
+    requires { ⌜ k < 5 ⌝ }
+    ensures { λ r. ⌜ Row (now (entries .entry)) (λ f. field (now (entries .entry)) f k ≡ field (now (entries .entry)) e k) r ⌝ }
 {
+    let value = entry_field(entries, e as usize, k);
     let count = placed(entries);
     let mut row: u64 = 0;
     let mut f: u32 = 0;
     while f < count {
-        if !beside(entries, mode, e, f) {
+        if entries[f as usize * 5 + k] == value {
             row = bitset::with(row, f);
         }
         f += 1;
@@ -34,45 +42,51 @@ fn apart(entries: &[u16], mode: u8, e: u32) -> u64
     row
 }
 
-// The same, with e itself or without.
-fn row_of(entries: &[u16], mode: u8, itself: bool, e: u32) -> u64
-    ensures { λ r. ⌜ Row (now (entries .entry)) (Apart (now (entries .entry)) mode itself e) r ⌝ }
-{
-    let row = apart(entries, mode, e);
-    if itself {
-        return row;
-    }
-    bitset::without(row, e)
-}
-
-fn rows(entries: &[u16], mode: u8, itself: bool) -> [u64; 64]
-    ensures { λ r. ⌜ Rows (now (entries .entry)) (Apart (now (entries .entry)) mode itself) r ⌝ }
+fn equal_rows(entries: &[u16], k: usize) -> [u64; 64]
+    requires { ⌜ k < 5 ⌝ }
+    ensures { λ r. ⌜ Rows (now (entries .entry)) (λ e f. field (now (entries .entry)) f k ≡ field (now (entries .entry)) e k) r ⌝ }
 {
     let count = placed(entries);
     let mut all = [0u64; 64];
     let mut e: u32 = 0;
     while e < count {
-        all[e as usize] = row_of(entries, mode, itself, e);
+        all[e as usize] = equal_row(entries, k, e);
         e += 1;
     }
     all
 }
 
-// Where neither cargo nor pip is asked for, nothing clashes.
-pub fn clashes(entries: &[u16], mode: u8) -> [u64; 64]
-    ensures { λ r. ⌜ Clashes (now (entries .entry)) mode r ⌝ }
+// Of each entry what both its rows hold, without the entry itself.
+fn shared(one: &[u64; 64], other: &[u64; 64]) -> [u64; 64]
+    ensures { λ r. ⌜ Shared (now (one .entry)) (now (other .entry)) r ⌝ }
 {
-    if mode != CARGO {
-        if mode != PIP {
-            return [0u64; 64];
-        }
+    let mut all = [0u64; 64];
+    let mut e: u32 = 0;
+    while e < 64 {
+        let i = e as usize;
+        all[i] = bitset::without(one[i] & other[i], e);
+        e += 1;
     }
-    rows(entries, mode, false)
+    all
 }
 
-// Under pip two entries may not stand together exactly if they are of one package.
+// Two entries of one package clash under pip, and under cargo where their majors are one. Where neither is asked for, nothing clashes.
+pub fn clashes(entries: &[u16], mode: u8, alike: &[u64; 64]) -> [u64; 64]
+    requires { ⌜ Alikes (now entries) (now alike) ⌝ }
+    ensures { λ r. ⌜ Clashes (now (entries .entry)) mode r ⌝ }
+{
+    if mode == PIP {
+        return shared(alike, alike);
+    }
+    if mode == CARGO {
+        let majors = equal_rows(entries, MAJOR);
+        return shared(alike, &majors);
+    }
+    [0u64; 64]
+}
+
 pub fn alikes(entries: &[u16]) -> [u64; 64]
     ensures { λ r. ⌜ Alikes (now (entries .entry)) r ⌝ }
 {
-    rows(entries, PIP, true)
+    equal_rows(entries, PACKAGE)
 }

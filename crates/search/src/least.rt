@@ -260,8 +260,8 @@ pub fn least(
     requires { ⌜ Posed (tabled (now entries) (now slots) settings (now objectives) fits) given (now past) (now plan) ⌝ }
     ensures { λ r. ⌜ Found (tabled (now (entries .entry)) (now (slots .entry)) settings (now (objectives .entry)) fits) (askedOf given (now (past .entry))) (now (plan .entry)) r (now (plan .exit)) ⌝ }
 {
-    let clash = clashes(entries, settings.mode);
     let alike = alikes(entries);
+    let clash = clashes(entries, settings.mode, &alike);
     let units = scale(objectives);
     let base = base_prices(entries, objectives, units);
     let top = above(entries);

@@ -1,17 +1,18 @@
--- `node::clash::rows` meets its contract: the rows before `e` are stored.
+-- `node::clash::equal_rows` meets its contract: the rows before `e` are stored.
+use mathlib.Core.Path.{_≡_}
 use Prim.Native.Nat.{_≤_, _-_}
 use native.Mathlib.Omega.{arith}
 use borrow.Author.Needs.{needs}
-use Rattle.node.specs.Clashing.{Apart}
+use Rattle.plan.specs.Pairs.{field}
 use Rattle.node.proofs.Clashing.{RowsTo, rows-none, rows-more, rows-end}
-use Rattle.node.proofs.clash.rows.Statement.{statement}
-use Rattle.node.proofs.clash.rows.Tie as tie
+use Rattle.node.proofs.clash.equal_rows.Statement.{statement}
+use Rattle.node.proofs.clash.equal_rows.Tie as tie
 
 abbrev Inv-loop : tie.InvT-loop
-Inv-loop entries mode itself count all₀ e₀ all e = (e ≤ count) × RowsTo entries (Apart entries mode itself) e all
+Inv-loop entries k count all₀ e₀ all e = (e ≤ count) × RowsTo entries (λ d f. field entries f k ≡ field entries d k) e all
 
 abbrev μ-loop : tie.MeasureT-loop
-μ-loop entries mode itself count all₀ e₀ all e = count - e
+μ-loop entries k count all₀ e₀ all e = count - e
 
 placed-requires : tie.Need-placed-requires Inv-loop μ-loop
 placed-requires c κs = search needs
@@ -19,8 +20,8 @@ placed-requires c κs = search needs
 loop-holds : tie.Need-loop-holds Inv-loop μ-loop
 loop-holds c = (search needs, rows-none _ _)
 
-row-of-requires : tie.Need-row-of-requires Inv-loop μ-loop
-row-of-requires c κs = search needs
+equal-row-requires : tie.Need-equal-row-requires Inv-loop μ-loop
+equal-row-requires c κs = search needs
 
 cast-all : tie.Need-cast-all Inv-loop μ-loop
 cast-all c = omega arith
@@ -40,20 +41,23 @@ loop-less c = omega arith
 loop-again : tie.Need-loop-again Inv-loop μ-loop
 loop-again c =
     let at = c .before .before in
-    (omega arith, rows-more _ _ (omega (arith, at .before .placed .ensures .0)) (at .loop .inv .1) (c .row-of .ensures))
+    let row = c .equal-row .ensures in (
+      omega arith,
+      rows-more _ _ _ (omega (arith, at .before .placed .ensures .0)) (at .loop .inv .1) (λ f m. row .holds f .0 m .1) (λ f p r. row .holds f .1 (p, r)),
+    )
 
 returns : tie.Need-returns Inv-loop μ-loop
 returns c = rows-end _ _ (λ e p. omega (arith, c .before .before .placed .ensures .1 e .1 p, c .loop-test .left)) (c .before .loop .inv .1)
 
-pub rows-spec : {M : Type 1} → statement M
-rows-spec =
+pub equal-rows-spec : {M : Type 1} → statement M
+equal-rows-spec =
     tie.close
     (tie.spec
     Inv-loop
     μ-loop
     placed-requires
     loop-holds
-    row-of-requires
+    equal-row-requires
     cast-all
     mul-all
     array-write-all
