@@ -3,7 +3,7 @@ use mathlib.Core.Path.{_≡_, refl, sym, ap, _∙_}
 use mathlib.Core.Bool.{Bool, true, false, true≢false}
 use mathlib.Core.List.{List}
 use mathlib.Core.Logic.{inl, inr}
-use Prim.Native.Nat.{ℕ, _≤_, _<_}
+use Prim.Native.Nat.{ℕ, suc, _≤_, _<_}
 use native.Mathlib.Omega.{arith}
 use lib.ListN.{length, getD}
 use Rattle.basis.specs.Rows.{Gives, GivesNone, refusal}
@@ -14,7 +14,7 @@ use Rattle.pacsolve.specs.Cost.{cost}
 use Rattle.pacsolve.specs.Listing.{Asked, from-the-start, after}
 use Rattle.pacsolve.proofs.Fixed.{least-or-none-left}
 use Rattle.pacsolve.proofs.Refit.{refit-cost}
-use Rattle.catalogue.specs.Tables.{Lent, entryCount, slotCount}
+use Rattle.catalogue.specs.Tables.{Lent, entryCount, slotCount, ownerOf}
 use Rattle.catalogue.specs.Refusals.{rows}
 use Rattle.catalogue.specs.Gives.{problem}
 use Rattle.catalogue.specs.declared.Survey.{Survey}
@@ -76,6 +76,7 @@ module _ (L : Lent) (buffer : List ℕ) where
           slots = few-slots;
           root = there s;
           apart = apart s;
+          rising = rising s;
           past-sized = same-size ∙ room;
           plan-sized = room;
           given-costed = costed;
@@ -86,6 +87,12 @@ module _ (L : Lent) (buffer : List ℕ) where
 
         apart : Sane L (length buffer) → Apart (L .objectives)
         apart s = different-codes (L .objectives) (s .once)
+
+        rising : Sane L (length buffer) → (k : ℕ) → suc k < slotCount L → ownerOf L k ≤ ownerOf L (suc k)
+        rising s k h =
+            let here : k < slotCount L = omega arith in
+            let no-fall : ¬ (ownerOf L (suc k) < ownerOf L k) = λ fall. s .rising (k, here, (h, fall)) in
+            omega arith
 
     -- the same by what a program knows: a test, and a table kept aside
     pub answered-unsound : (b r : Bool) (P : A-plan) → UnsoundIf b (indexed L fits) P r → r ≡ true → Lists L (askedIf b P) buffer (Refused (refusal 10)) buffer

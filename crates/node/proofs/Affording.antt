@@ -4,6 +4,7 @@ use mathlib.Core.List.{List}
 use Prim.Native.Nat.{ℕ, _+_}
 use native.Mathlib.Omega.{arith}
 use Rattle.bitset.specs.Bits.{Member}
+use Rattle.catalogue.proofs.Spanned.{span-owner}
 use Rattle.pacsolve.specs.Problem.{Problem}
 use Rattle.pacsolve.specs.Plan.{Plan, chosen, MemberOf}
 use Rattle.catalogue.specs.declared.Settings.{Settings}
@@ -23,20 +24,21 @@ use Rattle.node.proofs.Banning.{banned-kept}
 use Rattle.node.proofs.Slotted.{Slotted, tabled-slotted}
 
 module _ (entries slots : List ℕ) (settings : Settings) (objectives fits : List ℕ) (given : Best) (past : List ℕ) (best : Best) (plan : List ℕ) (node : Node) (choices : List ℕ)
-    {clash alike base : List ℕ} {scale : Scale} (facts : Facts entries objectives (settings .mode) clash alike base scale) where
+    {clash alike base first : List ℕ} {scale : Scale} (facts : Facts entries slots objectives (settings .mode) clash alike base first scale) where
   abbrev p : Problem
   p = tabled entries slots settings objectives fits
 
   slotted : Slotted p slots
   slotted = tabled-slotted entries slots settings objectives fits
 
-  -- a plan inside the node has a choice of every slot of a must entry
-  serves : (P : Plan) → Sought p (askedOf given past) (limitOf best plan) (node .must) (node .ban) choices P → Serves slots (node .must) choices (P .set)
-  serves P x s h m =
-      let owned : MemberOf P (p .owner s) = x .inside .has (p .owner s) (rw (slotted .owner s h) m) in
-      (chosen P s, x .inside .names s h owned, x .good .sound .named .filled s h owned)
+  -- a plan inside the node has a choice of every slot of a member
+  serves : (P : Plan) → Sought p (askedOf given past) (limitOf best plan) (node .must) (node .ban) choices P → Serves first (P .set) choices (P .set)
+  serves P x e s small m low high =
+      let its = span-owner (facts .spans) e s small low high in
+      let owned : MemberOf P (p .owner s) = rw (slotted .owner s (its .0), its .1) m in
+      (chosen P s, x .inside .names s (its .0) owned, x .good .sound .named .filled s (its .0) owned)
 
-  pub afforded : {ground : Ground} {price : List ℕ} {top out : ℕ} {r : Node} → Floors alike base scale slots (node .must) choices price ground
+  pub afforded : {ground : Ground} {price : List ℕ} {top out : ℕ} {r : Node} → Floors alike base scale first (node .must) choices price ground
       → Ceils p scale best plan node choices top → Beyond price (ground .sum) (top + ground .credit) out → Bans node out r
       → Narrowed p given past best plan node choices r choices
   afforded {ground} {price} {top} {out} {r} floors ceils beyond bans =

@@ -14,10 +14,11 @@ use Rattle.bitset.proofs.Made.{meet-members}
 use Rattle.pacsolve.specs.Problem.{Problem}
 use Rattle.pacsolve.specs.Plan.{Plan, chosen}
 use Rattle.pacsolve.specs.Listing.{Good}
+use Rattle.catalogue.specs.Spans.{ownerIn}
 use Rattle.node.specs.declared.Node.{Node}
 use Rattle.node.specs.declared.settle.Narrowed.{Narrowed}
 use Rattle.node.specs.Sought.{Inside}
-use Rattle.node.specs.Steps.{Only, ownerIn, Settled}
+use Rattle.node.specs.Steps.{Only, Settled}
 use Rattle.node.specs.Settling.{Less, SlotInside, SlotSettled, Filled, InsideBy, SettledBy}
 use Rattle.node.proofs.Few.{some-member, not-empty}
 use Rattle.node.proofs.Stores.{stored-fewer, stored-keeps}

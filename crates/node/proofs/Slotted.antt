@@ -7,7 +7,7 @@ use lib.ListN.{length, getD}
 use Rattle.pacsolve.specs.Problem.{Problem}
 use Rattle.catalogue.specs.declared.Settings.{Settings}
 use Rattle.catalogue.specs.Survey.{tabled as tables}
-use Rattle.node.specs.Steps.{ownerIn}
+use Rattle.catalogue.specs.Spans.{ownerIn}
 
 -- a problem whose slots are those of a slot table
 pub record Slotted (p : Problem) (slots : List ℕ) : Type 0 where

@@ -1,5 +1,5 @@
--- What the search works out of the tables once: rows of the entries that clash and of those of one package, how costs are scaled to one number, and the entries'
--- prices.
+-- What the search works out of the tables once: where the slots of each entry stand, rows of the entries that clash and of those of one package, how costs are scaled
+-- to one number, and the entries' prices.
 use mathlib.Core.Path.{_≡_}
 use mathlib.Core.List.{List}
 use Prim.Native.Nat.{ℕ, _+_, _*_, _/_, _≤_, _<_}
@@ -9,6 +9,7 @@ use Rattle.pacsolve.specs.Problem.{Problem}
 use Rattle.pacsolve.specs.Plan.{Plan}
 use Rattle.pacsolve.specs.Cost.{cost}
 use Rattle.pacsolve.specs.Listing.{Good}
+use Rattle.catalogue.specs.Spans.{Spans, Bounded, ownerIn}
 use Rattle.price.specs.declared.Scale.{Scale}
 use Rattle.price.specs.Worth.{Scaled, worthOf, BasePrices}
 use Rattle.price.specs.Kinds.{OfOnePackage}
@@ -17,9 +18,9 @@ use Rattle.node.specs.declared.Best.{Best}
 use Rattle.node.specs.declared.Node.{Node}
 use Rattle.node.specs.Clashing.{Clashes}
 use Rattle.node.specs.Sought.{Below, Inside, limitOf}
-use Rattle.node.specs.Steps.{ownerIn}
 
-pub record Facts (entries objectives : List ℕ) (mode : ℕ) (clash alike base : List ℕ) (scale : Scale) : Type 0 where
+pub record Facts (entries slots objectives : List ℕ) (mode : ℕ) (clash alike base first : List ℕ) (scale : Scale) : Type 0 where
+  pub spans : Spans slots first
   pub clashes : Clashes entries mode clash
   pub alikes : OfOnePackage entries alike
   pub scaled : Scaled objectives scale
@@ -29,7 +30,8 @@ pub record Facts (entries objectives : List ℕ) (mode : ℕ) (clash alike base 
   pub light : (e : ℕ) → getD entries (e * 5 + 4) 0 ≤ 65535
 
 -- what the steps of narrowing ask of the tables' sizes
-pub record Sized (slots plan alike base : List ℕ) (scale : Scale) : Type 0 where
+pub record Sized (slots plan alike base first : List ℕ) (scale : Scale) : Type 0 where
+  pub bounded : Bounded first
   pub few-slots : length slots / 4 ≤ 256
   pub one-each : length plan ≡ length slots / 4
   pub rows : length alike ≡ 64

@@ -4,13 +4,14 @@ use mathlib.Core.Path.{_≡_}
 use mathlib.Core.Bool.{true}
 use mathlib.Core.List.{List}
 use mathlib.Core.Logic.{_↔_}
-use Prim.Native.Nat.{ℕ, _/_, _<_}
+use Prim.Native.Nat.{ℕ, _/_, _≤_, _<_}
 use lib.ListN.{length, getD}
 use Rattle.bitset.specs.Bits.{Member}
 use Rattle.pacsolve.specs.Plan.{Plan, chosen, MemberOf}
+use Rattle.catalogue.specs.Spans.{ownerIn}
 use Rattle.node.specs.declared.Node.{Node}
 use Rattle.node.specs.declared.settle.Narrowed.{Narrowed}
-use Rattle.node.specs.Steps.{ownerIn, Fewer}
+use Rattle.node.specs.Steps.{Fewer}
 
 -- the members of one set that another has not
 abbrev pub Less : ℕ → ℕ → ℕ → Type 0
@@ -21,6 +22,10 @@ pub record SlotInside (must ban owner choices set named : ℕ) : Type 0 where
   pub has : (e : ℕ) → Member must e → Member set e
   pub lacks : (e : ℕ) → Member ban e → ¬ Member set e
   pub names : Member set owner → Member choices named
+
+-- the slots from start on, before end, are of entry e
+abbrev pub SlotsOf : List ℕ → ℕ → ℕ → ℕ → Type 0
+SlotsOf slots e start end = (s : ℕ) → start ≤ s → s < end → (s < length slots / 4) × (ownerIn slots s ≡ e)
 
 -- one slot settled: no plan is lost, and where a node is no longer alive there is none
 pub record SlotSettled (node : Node) (owner choices : ℕ) (r : Narrowed) : Type 0 where

@@ -3,7 +3,7 @@ use mathlib.Core.Path.{_≡_}
 use mathlib.Core.Bool.{true}
 use mathlib.Core.List.{List}
 use mathlib.Core.Logic.{_↔_}
-use Prim.Native.Nat.{ℕ, _*_}
+use Prim.Native.Nat.{ℕ}
 use lib.ListN.{length, getD}
 use Rattle.bitset.specs.Bits.{Member}
 use Rattle.pacsolve.specs.Problem.{Problem}
@@ -15,10 +15,6 @@ use Rattle.node.specs.Sought.{Inside}
 -- e and nothing else is a member
 abbrev pub Only : ℕ → ℕ → Type 0
 Only set e = (d : ℕ) → Member set d ↔ (d ≡ e)
-
--- the owner of a slot, by the slot table
-abbrev pub ownerIn : List ℕ → ℕ → ℕ
-ownerIn slots s = getD slots (s * 4) 0
 
 -- a node after a step: all that it had to have it has, and no slot has gained a choice
 pub record Fewer (must : ℕ) (choices : List ℕ) (must′ : ℕ) (choices′ : List ℕ) : Type 0 where

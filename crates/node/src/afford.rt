@@ -30,6 +30,7 @@ fn beyond_means(price: &[u64; 64], sum: u64, limit: u64, open: u64) -> u64
 
 pub fn afford(
     slots: &[u16],
+    first: &[usize; 65],
     best: Best,
     plan: &[u8],
     node: Node,
@@ -39,11 +40,11 @@ pub fn afford(
     scale: Scale,
     price: &mut [u64; 64],
 ) -> Node
-    requires { ⌜ Sized (now slots) (now plan) (now alike) (now base) scale ⌝ }
-    ensures { λ r. ⌜ ((entries objectives fits clash past : List ℕ) (settings : Setting) (given : A-best) → Ready (tabled entries (now (slots .entry)) settings objectives fits) given past node best (now (plan .entry)) → Facts entries objectives (settings .mode) clash (now (alike .entry)) (now (base .entry)) scale → Narrowed (tabled entries (now (slots .entry)) settings objectives fits) given past best (now (plan .entry)) node (now (choices .entry)) r (now (choices .entry))) ⌝ }
+    requires { ⌜ Sized (now slots) (now plan) (now alike) (now base) (now first) scale ⌝ }
+    ensures { λ r. ⌜ ((entries objectives fits clash past : List ℕ) (settings : Setting) (given : A-best) → Ready (tabled entries (now (slots .entry)) settings objectives fits) given past node best (now (plan .entry)) → Facts entries (now (slots .entry)) objectives (settings .mode) clash (now (alike .entry)) (now (base .entry)) (now (first .entry)) scale → Narrowed (tabled entries (now (slots .entry)) settings objectives fits) given past best (now (plan .entry)) node (now (choices .entry)) r (now (choices .entry))) ⌝ }
 {
     let must = node.must;
-    let ground = lay(alike, base, scale, slots, must, choices, price);
+    let ground = lay(alike, base, scale, first, must, choices, price);
     let top = ceiling(slots, scale, best, plan, node, choices);
     let out = beyond_means(price, ground.sum, top + ground.credit, !must);
     ban_all(node, out)

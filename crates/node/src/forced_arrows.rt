@@ -8,20 +8,18 @@ use crate::holds::held_by;
 use catalogue::Settings;
 ghost use mathlib.Core.List.{List};
 ghost use mathlib.Core.Path.{_≡_};
-ghost use Prim.Native.Nat.{ℕ, _/_, _≤_, _<_};
+ghost use Prim.Native.Nat.{ℕ, _≤_, _<_};
 ghost use lib.ListN.{length};
+ghost use Rattle.catalogue.specs.Spans.{Spans, Bounded};
 ghost use Rattle.catalogue.specs.Survey.{tabled};
-ghost use Rattle.node.specs.Arrows.{Sources, Pointed, Followed, Returning, WithLooped, Loops, Unlooped};
+ghost use Rattle.node.specs.Arrows.{Sources, Pointed, PointedAll, Followed, WithLooped, Loops, TakenBack, Unlooped};
 ghost use Rattle.node.specs.Steps.{Settled};
 
-// Adds the owner of a slot with one choice to the row of that choice, unless the owner is banned.
-fn point(rows: &mut [u64; 64], ban: u64, owner: u32, choices: u64)
+// Adds the owner of a slot with one choice to the row of that choice.
+fn point(rows: &mut [u64; 64], owner: u32, choices: u64)
     requires { ⌜ length (now rows) ≡ 64 ⌝ }
     ensures { λ _. ⌜ Pointed owner choices (now (rows .entry)) (now (rows .exit)) ⌝ }
 {
-    if bitset::has(ban, owner) {
-        return;
-    }
     match held_by(choices) {
         Held::Nothing => {}
         Held::One(e) => {
@@ -32,18 +30,30 @@ fn point(rows: &mut [u64; 64], ban: u64, owner: u32, choices: u64)
     }
 }
 
-// The arrows that the slots with one choice give: row e holds what leads to e.
-fn arrows(slots: &[u16], choices: &[u64; 256], ban: u64) -> [u64; 64]
-    requires { ⌜ length (now slots) / 4 ≤ 256 ⌝ }
-    ensures { λ r. ⌜ Sources (now (slots .entry)) (now (choices .entry)) r ⌝ }
+// Adds the arrows of the slots from `start` on, before `end`.
+fn point_all(rows: &mut [u64; 64], owner: u32, start: usize, end: usize, choices: &[u64; 256])
+    requires { ⌜ (length (now rows) ≡ 64) × (end ≤ 256) ⌝ }
+    ensures { λ _. ⌜ PointedAll start end owner (now (choices .entry)) (now (rows .entry)) (now (rows .exit)) ⌝ }
 {
-    let count = slots.len() / 4;
-    let mut rows = [0u64; 64];
-    let mut s: usize = 0;
-    while s < count {
-        let owner = slots[s * 4] as u32;
-        point(&mut rows, ban, owner, choices[s]);
+    let mut s = start;
+    while s < end {
+        point(rows, owner, choices[s]);
         s += 1;
+    }
+}
+
+// The arrows that the slots with one choice give: row e holds what leads to e.
+fn arrows(first: &[usize; 65], choices: &[u64; 256], live: u64) -> [u64; 64]
+    requires { ⌜ Bounded (now first) ⌝ }
+    ensures { λ r. ⌜ Sources (now (first .entry)) (now (choices .entry)) r ⌝ }
+{
+    let mut rows = [0u64; 64];
+    let mut rest = live;
+    while rest != 0 {
+        let e = bitset::lowest(rest);
+        let at = e as usize;
+        rest = bitset::without(rest, e);
+        point_all(&mut rows, e, first[at], first[at + 1], choices);
     }
     rows
 }
@@ -59,40 +69,43 @@ fn follow_by(rows: &mut [u64; 64], k: usize)
     plan::cycles::pass(rows, k);
 }
 
-// Closes the arrows, by way of each entry in turn.
-fn follow(rows: &mut [u64; 64])
+// Closes the arrows, by way of each live entry in turn: only those lead on.
+fn follow(rows: &mut [u64; 64], live: u64)
     requires { ⌜ length (now rows) ≡ 64 ⌝ }
     ensures { λ _. ⌜ Followed (now (rows .entry)) (now (rows .exit)) ⌝ }
 {
-    let mut k: usize = 0;
-    while k < 64 {
-        follow_by(rows, k);
-        k += 1;
+    let mut rest = live;
+    while rest != 0 {
+        let e = bitset::lowest(rest);
+        rest = bitset::without(rest, e);
+        follow_by(rows, e as usize);
     }
 }
 
-// The owner of a slot and all that leads to it.
-fn returning(rows: &[u64; 64], owner: u32) -> u64
-    ensures { λ r. ⌜ Returning (now (rows .entry)) owner r ⌝ }
+// Takes some entries from the choices of the slots from `start` on, before `end`.
+fn take_back(start: usize, end: usize, back: u64, choices: &mut [u64; 256])
+    requires { ⌜ end ≤ 256 ⌝ }
+    ensures { λ _. ⌜ TakenBack start end back (now (choices .entry)) (now (choices .exit)) ⌝ }
 {
-    if 64 <= owner {
-        return 0;
-    }
-    let at = owner as usize;
-    bitset::with(rows[at], owner)
-}
-
-// Takes from every slot the choices that return to its owner.
-fn unloop(slots: &[u16], rows: &[u64; 64], choices: &mut [u64; 256])
-    requires { ⌜ length (now slots) / 4 ≤ 256 ⌝ }
-    ensures { λ _. ⌜ Unlooped (now (slots .entry)) (now (rows .entry)) (now (choices .entry)) (now (choices .exit)) ⌝ }
-{
-    let count = slots.len() / 4;
-    let mut s: usize = 0;
-    while s < count {
-        let back = returning(rows, slots[s * 4] as u32);
+    let mut s = start;
+    while s < end {
         choices[s] = all_but(choices[s], back);
         s += 1;
+    }
+}
+
+// Takes from every slot of a live entry that entry and what leads to it.
+fn unloop(first: &[usize; 65], rows: &[u64; 64], live: u64, choices: &mut [u64; 256])
+    requires { ⌜ Bounded (now first) ⌝ }
+    ensures { λ _. ⌜ Unlooped (now (first .entry)) (now (rows .entry)) (now (choices .entry)) (now (choices .exit)) ⌝ }
+{
+    let mut rest = live;
+    while rest != 0 {
+        let e = bitset::lowest(rest);
+        let at = e as usize;
+        rest = bitset::without(rest, e);
+        let back = bitset::with(rows[at], e);
+        take_back(first[at], first[at + 1], back, choices);
     }
 }
 
@@ -106,34 +119,37 @@ fn with_looped(out: u64, row: u64, d: u32) -> u64
     out
 }
 
-// The entries that lead to themselves.
-fn looped(rows: &[u64; 64]) -> u64
+// The live entries that lead to themselves.
+fn looped(rows: &[u64; 64], live: u64) -> u64
     ensures { λ r. ⌜ Loops (now (rows .entry)) r ⌝ }
 {
     let mut out = 0;
-    let mut d: usize = 0;
-    while d < 64 {
-        out = with_looped(out, rows[d], d as u32);
-        d += 1;
+    let mut rest = live;
+    while rest != 0 {
+        let e = bitset::lowest(rest);
+        let at = e as usize;
+        rest = bitset::without(rest, e);
+        out = with_looped(out, rows[at], e);
     }
     out
 }
 
 pub fn forced_arrows(
-    slots: &[u16],
+    first: &[usize; 65],
     settings: Settings,
     node: Node,
     choices: &mut [u64; 256],
 ) -> Node
-    requires { ⌜ length (now slots) / 4 ≤ 256 ⌝ }
-    ensures { λ r. ⌜ ((entries objectives fits : List ℕ) → Settled (tabled entries (now (slots .entry)) settings objectives fits) node r (now (choices .entry)) (now (choices .exit))) ⌝ }
+    requires { ⌜ Bounded (now first) ⌝ }
+    ensures { λ r. ⌜ ((entries slots objectives fits : List ℕ) → Spans slots (now (first .entry)) → Settled (tabled entries slots settings objectives fits) node r (now (choices .entry)) (now (choices .exit))) ⌝ }
 {
     if settings.cycles != 0 {
         return ban_all(node, 0);
     }
-    let mut rows = arrows(slots, choices, node.ban);
-    follow(&mut rows);
-    unloop(slots, &rows, choices);
-    let out = looped(&rows);
+    let live = !node.ban;
+    let mut rows = arrows(first, choices, live);
+    follow(&mut rows, live);
+    unloop(first, &rows, live, choices);
+    let out = looped(&rows, live);
     ban_all(node, out)
 }

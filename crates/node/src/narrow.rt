@@ -11,10 +11,10 @@ use crate::within_reach::within_reach;
 use catalogue::Settings;
 use price::Scale;
 ghost use mathlib.Core.List.{List};
-ghost use Prim.Native.Nat.{ℕ, _/_, _≤_};
-ghost use lib.ListN.{length};
+ghost use Prim.Native.Nat.{ℕ};
 ghost use Rattle.bitset.specs.Bits.{Member};
 ghost use Rattle.catalogue.specs.declared.Settings.{Settings as Setting};
+ghost use Rattle.catalogue.specs.Spans.{Spans, Bounded};
 ghost use Rattle.catalogue.specs.Survey.{tabled};
 ghost use Rattle.node.specs.declared.Best.{Best as A-best};
 ghost use Rattle.node.specs.Clashing.{Clashes};
@@ -34,11 +34,11 @@ fn same(a: Node, b: Node) -> bool {
 }
 
 // What slots with few choices and what clashes tell.
-fn sorted_out(slots: &[u16], node: Node, choices: &mut [u64; 256], clash: &[u64; 64]) -> Node
-    requires { ⌜ length (now slots) / 4 ≤ 256 ⌝ }
-    ensures { λ r. ⌜ ((entries objectives fits : List ℕ) (settings : Setting) → Clashes entries (settings .mode) (now (clash .entry)) → Settled (tabled entries (now (slots .entry)) settings objectives fits) node r (now (choices .entry)) (now (choices .exit))) ⌝ }
+fn sorted_out(first: &[usize; 65], node: Node, choices: &mut [u64; 256], clash: &[u64; 64]) -> Node
+    requires { ⌜ Bounded (now first) ⌝ }
+    ensures { λ r. ⌜ ((entries slots objectives fits : List ℕ) (settings : Setting) → Spans slots (now (first .entry)) → Clashes entries (settings .mode) (now (clash .entry)) → Settled (tabled entries slots settings objectives fits) node r (now (choices .entry)) (now (choices .exit))) ⌝ }
 {
-    let settled = settle(slots, node, choices);
+    let settled = settle(first, node, choices);
     let alive = settled.alive;
     if !alive {
         return settled;
@@ -47,26 +47,32 @@ fn sorted_out(slots: &[u16], node: Node, choices: &mut [u64; 256], clash: &[u64;
 }
 
 // What the walks of a plan tell: it has no cycles where they are forbidden, and all of it is reached.
-fn walked_through(slots: &[u16], settings: Settings, node: Node, choices: &mut [u64; 256]) -> Node
-    requires { ⌜ length (now slots) / 4 ≤ 256 ⌝ }
-    ensures { λ r. ⌜ ((entries objectives fits : List ℕ) → Member (node .must) (settings .root) → Settled (tabled entries (now (slots .entry)) settings objectives fits) node r (now (choices .entry)) (now (choices .exit))) ⌝ }
+fn walked_through(
+    first: &[usize; 65],
+    settings: Settings,
+    node: Node,
+    choices: &mut [u64; 256],
+) -> Node
+    requires { ⌜ Bounded (now first) ⌝ }
+    ensures { λ r. ⌜ ((entries slots objectives fits : List ℕ) → Spans slots (now (first .entry)) → Member (node .must) (settings .root) → Settled (tabled entries slots settings objectives fits) node r (now (choices .entry)) (now (choices .exit))) ⌝ }
 {
-    let standing = grounded(slots, settings, node, choices);
+    let standing = grounded(first, settings, node, choices);
     let stands = standing.alive;
     if !stands {
         return standing;
     }
-    let pointed = forced_arrows(slots, settings, standing, choices);
+    let pointed = forced_arrows(first, settings, standing, choices);
     let points = pointed.alive;
     if !points {
         return pointed;
     }
-    within_reach(slots, pointed, choices)
+    within_reach(first, pointed, choices)
 }
 
 // One round: as soon as a cheap step drops something, the round is over.
 fn once(
     slots: &[u16],
+    first: &[usize; 65],
     settings: Settings,
     best: Best,
     plan: &[u8],
@@ -78,10 +84,10 @@ fn once(
     scale: Scale,
     price: &mut [u64; 64],
 ) -> Node
-    requires { ⌜ Sized (now slots) (now plan) (now alike) (now base) scale ⌝ }
-    ensures { λ r. ⌜ ((entries objectives fits past : List ℕ) (given : A-best) → Ready (tabled entries (now (slots .entry)) settings objectives fits) given past node best (now (plan .entry)) → Facts entries objectives (settings .mode) (now (clash .entry)) (now (alike .entry)) (now (base .entry)) scale → Narrowed (tabled entries (now (slots .entry)) settings objectives fits) given past best (now (plan .entry)) node (now (choices .entry)) r (now (choices .exit))) ⌝ }
+    requires { ⌜ Sized (now slots) (now plan) (now alike) (now base) (now first) scale ⌝ }
+    ensures { λ r. ⌜ ((entries objectives fits past : List ℕ) (given : A-best) → Ready (tabled entries (now (slots .entry)) settings objectives fits) given past node best (now (plan .entry)) → Facts entries (now (slots .entry)) objectives (settings .mode) (now (clash .entry)) (now (alike .entry)) (now (base .entry)) (now (first .entry)) scale → Narrowed (tabled entries (now (slots .entry)) settings objectives fits) given past best (now (plan .entry)) node (now (choices .entry)) r (now (choices .exit))) ⌝ }
 {
-    let sorted = sorted_out(slots, node, choices, clash);
+    let sorted = sorted_out(first, node, choices, clash);
     let sorts = sorted.alive;
     if !sorts {
         return sorted;
@@ -89,7 +95,7 @@ fn once(
     if !same(sorted, node) {
         return sorted;
     }
-    let walked = walked_through(slots, settings, sorted, choices);
+    let walked = walked_through(first, settings, sorted, choices);
     let walks = walked.alive;
     if !walks {
         return walked;
@@ -99,6 +105,7 @@ fn once(
     }
     afford(
         slots,
+        first,
         best,
         plan,
         walked,
@@ -113,6 +120,7 @@ fn once(
 pub fn narrow(
     entries: &[u16],
     slots: &[u16],
+    first: &[usize; 65],
     settings: Settings,
     objectives: &[u8],
     fits: &[u64; 256],
@@ -128,7 +136,7 @@ pub fn narrow(
     scale: Scale,
     price: &mut [u64; 64],
 ) -> Node
-    requires { ⌜ Ready (tabled (now entries) (now slots) settings (now objectives) (now fits)) given (now past) node best (now plan) ⌝ ∗ ⌜ Facts (now entries) (now objectives) (settings .mode) (now clash) (now alike) (now base) scale ⌝ }
+    requires { ⌜ Ready (tabled (now entries) (now slots) settings (now objectives) (now fits)) given (now past) node best (now plan) ⌝ ∗ ⌜ Facts (now entries) (now slots) (now objectives) (settings .mode) (now clash) (now alike) (now base) (now first) scale ⌝ }
     ensures { λ r. ⌜ Narrowed (tabled (now (entries .entry)) (now (slots .entry)) settings (now (objectives .entry)) (now (fits .entry))) given (now (past .entry)) best (now (plan .entry)) node (now (choices .entry)) r (now (choices .exit)) ⌝ }
 {
     let mut at = Node {
@@ -140,6 +148,7 @@ pub fn narrow(
     while round < ROUNDS {
         let next = once(
             slots,
+            first,
             settings,
             best,
             plan,

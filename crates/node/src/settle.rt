@@ -4,9 +4,11 @@ use crate::Node;
 use crate::holds::Held;
 use crate::holds::all_but;
 use crate::holds::held_by;
-ghost use Prim.Native.Nat.{_/_, _≤_};
-ghost use lib.ListN.{length};
-ghost use Rattle.node.specs.Settling.{SlotSettled, SettledBy};
+ghost use mathlib.Core.List.{List};
+ghost use Prim.Native.Nat.{ℕ, _≤_};
+ghost use Rattle.catalogue.specs.Spans.{Spans, Bounded};
+ghost use Rattle.node.specs.declared.Node.{Node as A-node};
+ghost use Rattle.node.specs.Settling.{SlotSettled, SlotsOf, SettledBy};
 
 // What one slot makes of a node, and its choices that are left.
 pub struct Narrowed {
@@ -41,23 +43,39 @@ fn settle_slot(node: Node, owner: u32, choices: u64) -> Narrowed
     }
 }
 
-pub fn settle(slots: &[u16], node: Node, choices: &mut [u64; 256]) -> Node
-    requires { ⌜ length (now slots) / 4 ≤ 256 ⌝ }
-    ensures { λ r. ⌜ SettledBy (now (slots .entry)) node r (now (choices .entry)) (now (choices .exit)) ⌝ }
+// The slots from start on, before end, which are of entry e. What was settled before stays settled.
+fn settle_entry(node: Node, e: u32, start: usize, end: usize, choices: &mut [u64; 256]) -> Node
+    requires { ⌜ end ≤ 256 ⌝ }
+    ensures { λ r. ⌜ ((slots old : List ℕ) (before : A-node) → SlotsOf slots e start end → SettledBy slots before node old (now (choices .entry)) → SettledBy slots before r old (now (choices .exit))) ⌝ }
 {
-    let count = slots.len() / 4;
+    let mut known = node;
+    let mut s = start;
+    while s < end {
+        let step = settle_slot(known, e, choices[s]);
+        choices[s] = step.choices;
+        let next = step.node;
+        known = next;
+        s += 1;
+    }
+    known
+}
+
+// An entry that is banned has no slot to settle.
+pub fn settle(first: &[usize; 65], node: Node, choices: &mut [u64; 256]) -> Node
+    requires { ⌜ Bounded (now first) ⌝ }
+    ensures { λ r. ⌜ ((slots : List ℕ) → Spans slots (now (first .entry)) → SettledBy slots node r (now (choices .entry)) (now (choices .exit))) ⌝ }
+{
     let mut known = Node {
         must: node.must,
         ban: node.ban,
         alive: true,
     };
-    let mut s: usize = 0;
-    while s < count {
-        let step = settle_slot(known, slots[s * 4] as u32, choices[s]);
-        choices[s] = step.choices;
-        let next = step.node;
-        known = next;
-        s += 1;
+    let mut rest = !node.ban;
+    while rest != 0 {
+        let e = bitset::lowest(rest);
+        rest = bitset::without(rest, e);
+        let i = e as usize;
+        known = settle_entry(known, e, first[i], first[i + 1], choices);
     }
     if known.must & known.ban != 0 {
         return Node {

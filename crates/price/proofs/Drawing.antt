@@ -2,7 +2,7 @@
 use mathlib.Core.Path.{_≡_, refl, sym, ap, _∙_}
 use mathlib.Core.List.{List}
 use mathlib.Core.Logic.{_⊎_, inl, inr}
-use Prim.Native.Nat.{ℕ, _+_, _-_, _*_, _/_, _^_, _≤_, _<_}
+use Prim.Native.Nat.{ℕ, _+_, _-_, _*_, _^_, _≤_, _<_}
 use native.Mathlib.Nat.{one-mul, zero-mul}
 use native.Mathlib.Decide.{ℕ-discrete}
 use native.Mathlib.Omega.{arith}
@@ -18,7 +18,7 @@ use Rattle.bitset.proofs.Sets.{member-or-not, member-below, none-in-empty, bit-
 use Rattle.bitset.proofs.Least.{lowest-trailing}
 use Rattle.bitset.proofs.Made.{rest-members}
 use Rattle.plan.proofs.MemberWalk.{Walked, walk-start, walk-on, walk-left}
-use Rattle.price.specs.Prices.{priceOf, everything, Meets, Has, Drawn, Low, ServesTo, Serves}
+use Rattle.price.specs.Prices.{priceOf, everything, Meets, Has, Drawn, Low}
 
 -- one term less by x: the sum is less by as much
 sum-lowered : (f g : ℕ → ℕ) (n e x : ℕ) → e < n → f e ≡ g e + x → ((d : ℕ) → ¬ (d ≡ e) → f d ≡ g d) → x + sum g n ≡ sum f n
@@ -83,6 +83,10 @@ drawn-then f g =
 
 pub drawn-for : {Q R : ℕ → Type 0} {a b : List ℕ} {x : ℕ} → ((set : ℕ) → R set → Q set) → Drawn Q a b x → Drawn R a b x
 drawn-for h f = record { sized = f .sized; fair = λ set r. f .fair set (h set r); whole = f .whole }
+
+-- drawn for what already holds of the sets that were drawn for
+pub drawn-more : {Q R : ℕ → Type 0} {a b c : List ℕ} {x y : ℕ} → Drawn Q a b x → Drawn R b c y → ((set : ℕ) → Q set → R set) → Drawn Q a c (x + y)
+drawn-more f g h = drawn-for (λ set q. (q, h set q)) (drawn-then f g)
 
 -- what is left low is low
 pub low-after : {Q : ℕ → Type 0} {a b : List ℕ} {x : ℕ} → Low a → Drawn Q a b x → Low b × (x < 2 ^ 62)
@@ -188,23 +192,3 @@ module _ {A : ℕ} {price₀ price : List ℕ} {sum rest d : ℕ} (t : Emptying 
     where
       its : Member A d
       its = t .walked .within d (low .some some .member)
-
--- drawn for the slots below s, and for one slot more
-pub record Serving (slots : List ℕ) (must : ℕ) (choices price₀ price : List ℕ) (sum s : ℕ) : Type 0 where
-  pub inside : s ≤ length slots / 4
-  pub drawn : Drawn (ServesTo slots must choices s) price₀ price sum
-
-pub serving-start : (slots : List ℕ) (must : ℕ) (choices price : List ℕ) → Serving slots must choices price price 0 0
-serving-start slots must choices price = record { inside = omega arith; drawn = drawn-none price }
-
-pub serving-on : {slots : List ℕ} {must : ℕ} {choices price₀ price next : List ℕ} {sum s more : ℕ} → Serving slots must choices price₀ price sum s → s < length slots / 4
-    → Drawn (λ set. (Member must (getD slots (s * 4) 0) → Meets (getD choices s 0) set)) price next more → Serving slots must choices price₀ next (sum + more) (s + 1)
-serving-on {s = s} t h d =
-    record {
-      inside = omega arith;
-      drawn = drawn-for (λ set q. (λ t l m. q t (omega arith) m, λ m. q s (omega arith) m)) (drawn-then (t .drawn) d);
-    }
-
-pub serving-end : {slots : List ℕ} {must : ℕ} {choices price₀ price : List ℕ} {sum s : ℕ} → Serving slots must choices price₀ price sum s → length slots / 4 ≤ s
-    → Drawn (Serves slots must choices) price₀ price sum
-serving-end t h = drawn-for (λ set q s l m. q s (omega (arith, t .inside)) m) (t .drawn)

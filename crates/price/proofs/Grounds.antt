@@ -39,10 +39,10 @@ pub credit-fits : (scale : Scale) (packages : ℕ) → Small scale → packages 
 credit-fits scale packages s h =
     let product = times-le 34628173888 (s .double) h refl in (product, omega (arith, product, s .count))
 
-pub laid : {alike base : List ℕ} {scale : Scale} {slots : List ℕ} {must : ℕ} {choices raised between price : List ℕ} {known : Known} {fixed shared : ℕ} → Moderate base scale
+pub laid : {alike base : List ℕ} {scale : Scale} {first : List ℕ} {must : ℕ} {choices raised between price : List ℕ} {known : Known} {fixed shared : ℕ} → Moderate base scale
     → ((entries : List ℕ) → OfOnePackage entries alike → Packaged entries known) → known .packages ≤ 64 → Raised base (known .entries) (scale .double) raised
-    → Drawn (Has must) raised between fixed → Drawn (Serves slots must choices) between price shared
-    → Floors alike base scale slots must choices price (record { sum = fixed + shared; credit = scale .count + scale .double * known .packages })
+    → Drawn (Has must) raised between fixed → Drawn (Serves first must choices) between price shared
+    → Floors alike base scale first must choices price (record { sum = fixed + shared; credit = scale .count + scale .double * known .packages })
 laid {base = base} {scale = scale} {raised = raised} {known = known} moderate packaged fits up one two =
     let both = drawn-then one two in
     let low = raised-low base raised (known .entries) (scale .double) (moderate .each) (moderate .small .double) up in
@@ -51,5 +51,5 @@ laid {base = base} {scale = scale} {raised = raised} {known = known} moderate pa
       credit = credit-fits scale (known .packages) (moderate .small) fits .1;
       sized = omega (arith, both .sized, up .sized);
       below = λ entries objectives all fits settings alike scaled prices few set exist has serves.
-          omega (arith, both .fair set (has, serves), price-le entries all settings objectives fits set few exist scale base scaled prices known (packaged entries alike) raised up);
+          omega (arith, both .fair set (has, λ e s h m. serves e s h (has e m)), price-le entries all settings objectives fits set few exist scale base scaled prices known (packaged entries alike) raised up);
     }

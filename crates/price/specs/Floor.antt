@@ -20,12 +20,12 @@ pub record Moderate (base : List ℕ) (scale : Scale) : Type 0 where
   pub sized : length base ≡ 64
   pub each : (e : ℕ) → getD base e 0 ≤ 140737488355328
 
-pub record Floors (alike base : List ℕ) (scale : Scale) (slots : List ℕ) (must : ℕ) (choices price : List ℕ) (r : Ground) : Type 0 where
+pub record Floors (alike base : List ℕ) (scale : Scale) (first : List ℕ) (must : ℕ) (choices price : List ℕ) (r : Ground) : Type 0 where
   pub sum : r .sum < 2 ^ 62
   pub credit : r .credit < 2 ^ 62
   pub sized : length price ≡ 64
   pub below : (entries objectives all fits : List ℕ) (settings : Settings) → OfOnePackage entries alike → Scaled objectives scale → BasePrices entries objectives scale base
-      → length entries / 5 ≤ 64 → (set : ℕ) → ((e : ℕ) → Member set e → e < length entries / 5) → Has must set → Serves slots must choices set
+      → length entries / 5 ≤ 64 → (set : ℕ) → ((e : ℕ) → Member set e → e < length entries / 5) → Has must set → Serves first set choices set
       → r .sum + priceOf price set ≤ worthOf scale (cost (tabled entries all settings objectives fits) set) + r .credit
 
 -- none but entries whose price is the limit or more

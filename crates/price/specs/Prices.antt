@@ -1,7 +1,7 @@
 -- What a set costs at given prices, and what it is to draw an amount from the prices.
 use mathlib.Core.Path.{_≡_}
 use mathlib.Core.List.{List}
-use Prim.Native.Nat.{ℕ, _+_, _-_, _*_, _/_, _^_, _≤_, _<_}
+use Prim.Native.Nat.{ℕ, _+_, _-_, _*_, _^_, _≤_, _<_}
 use lib.ListN.{length, getD}
 use Rattle.basis.specs.Sum.{sum}
 use Rattle.bitset.specs.Bits.{bit, Member}
@@ -32,10 +32,10 @@ pub record Drawn (Q : ℕ → Type 0) (price price′ : List ℕ) (amount : ℕ)
 abbrev pub Low : List ℕ → Type 0
 Low price = (length price ≡ 64) × (priceOf price everything < 2 ^ 62)
 
--- of each slot below n whose owner must be there a set has a choice
-abbrev pub ServesTo : List ℕ → ℕ → List ℕ → ℕ → ℕ → Type 0
-ServesTo slots must choices n set = (s : ℕ) → s < n → Member must (getD slots (s * 4) 0) → Meets (getD choices s 0) set
+-- a set has a choice of each slot from start on, before end
+abbrev pub ServesSpan : ℕ → ℕ → List ℕ → ℕ → Type 0
+ServesSpan start end choices set = (s : ℕ) → start ≤ s → s < end → Meets (getD choices s 0) set
 
--- of each slot: what the set of every plan inside a node has
+-- a set has a choice of each slot that stands in the span of one of some owners
 abbrev pub Serves : List ℕ → ℕ → List ℕ → ℕ → Type 0
-Serves slots must choices set = ServesTo slots must choices (length slots / 4) set
+Serves first owners choices set = (e s : ℕ) → e < 64 → Member owners e → getD first e 0 ≤ s → s < getD first (e + 1) 0 → Meets (getD choices s 0) set

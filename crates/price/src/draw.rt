@@ -1,9 +1,10 @@
 // Drawing amounts from the prices: from one member at least of every set that has all of `must`, or a choice of each of its slots.
 ghost use mathlib.Core.Path.{_≡_};
-ghost use Prim.Native.Nat.{ℕ, _≤_, _/_};
+ghost use Prim.Native.Nat.{ℕ, _≤_};
 ghost use lib.ListN.{length, getD};
 ghost use Rattle.bitset.specs.Bits.{Member};
-ghost use Rattle.price.specs.Prices.{Low, Meets, Has, Serves, Drawn};
+ghost use Rattle.catalogue.specs.Spans.{Bounded};
+ghost use Rattle.price.specs.Prices.{Low, Meets, Has, ServesSpan, Serves, Drawn};
 
 // The lower of two amounts.
 fn lower(a: u64, b: u64) -> u64
@@ -77,31 +78,49 @@ pub fn pay_all(price: &mut [u64; 64], set: u64) -> u64
     sum
 }
 
-// Draws for one slot: where its owner must be there, and no choice of it is paid for.
-fn pay_slot(price: &mut [u64; 64], must: u64, owner: u32, choices: u64) -> u64
+// Draws for one slot, where no choice of it is paid for.
+fn pay_slot(price: &mut [u64; 64], must: u64, choices: u64) -> u64
     requires { ⌜ length (now price) ≡ 64 ⌝ }
-    ensures { λ r. ⌜ Drawn (λ set. (Member must owner → Meets choices set)) (now (price .entry)) (now (price .exit)) r ⌝ }
+    ensures { λ r. ⌜ Drawn (Meets choices) (now (price .entry)) (now (price .exit)) r ⌝ }
 {
-    if !bitset::has(must, owner) {
-        return 0;
-    }
     if choices & must != 0 {
         return 0;
     }
     pay(price, choices)
 }
 
-// Draws for each slot.
-pub fn pay_slots(price: &mut [u64; 64], slots: &[u16], must: u64, choices: &[u64; 256]) -> u64
-    requires { ⌜ Low (now price) ⌝ ∗ ⌜ length (now slots) / 4 ≤ 256 ⌝ }
-    ensures { λ r. ⌜ Drawn (Serves (now (slots .entry)) must (now (choices .entry))) (now (price .entry)) (now (price .exit)) r ⌝ }
+// Draws for the slots of one entry that must be there.
+fn pay_entry(
+    price: &mut [u64; 64],
+    must: u64,
+    start: usize,
+    end: usize,
+    choices: &[u64; 256],
+) -> u64
+    requires { ⌜ Low (now price) ⌝ ∗ ⌜ end ≤ 256 ⌝ }
+    ensures { λ r. ⌜ Drawn (ServesSpan start end (now (choices .entry))) (now (price .entry)) (now (price .exit)) r ⌝ }
 {
-    let count = slots.len() / 4;
     let mut sum: u64 = 0;
-    let mut s: usize = 0;
-    while s < count {
-        sum += pay_slot(price, must, slots[s * 4] as u32, choices[s]);
+    let mut s = start;
+    while s < end {
+        sum += pay_slot(price, must, choices[s]);
         s += 1;
+    }
+    sum
+}
+
+// Draws for each slot of what must be there.
+pub fn pay_slots(price: &mut [u64; 64], first: &[usize; 65], must: u64, choices: &[u64; 256]) -> u64
+    requires { ⌜ Low (now price) ⌝ ∗ ⌜ Bounded (now first) ⌝ }
+    ensures { λ r. ⌜ Drawn (Serves (now (first .entry)) must (now (choices .entry))) (now (price .entry)) (now (price .exit)) r ⌝ }
+{
+    let mut sum: u64 = 0;
+    let mut rest = must;
+    while rest != 0 {
+        let e = bitset::lowest(rest);
+        let i = e as usize;
+        sum += pay_entry(price, must, first[i], first[i + 1], choices);
+        rest = bitset::without(rest, e);
     }
     sum
 }

@@ -6,9 +6,10 @@ use crate::packages::packages_of;
 use crate::packages::raised;
 ghost use mathlib.Core.Path.{_≡_};
 ghost use mathlib.Core.Logic.{_⊎_};
-ghost use Prim.Native.Nat.{ℕ, _≤_, _/_};
+ghost use Prim.Native.Nat.{ℕ, _≤_};
 ghost use Rattle.bitset.specs.Bits.{Member};
 ghost use lib.ListN.{length};
+ghost use Rattle.catalogue.specs.Spans.{Bounded};
 ghost use Rattle.price.specs.Floor.{Moderate, Floors, Dear};
 
 // What every plan inside a node pays, and how much less than that its cost may be.
@@ -22,18 +23,18 @@ pub fn lay(
     alike: &[u64; 64],
     base: &[u64; 64],
     scale: Scale,
-    slots: &[u16],
+    first: &[usize; 65],
     must: u64,
     choices: &[u64; 256],
     price: &mut [u64; 64],
 ) -> Ground
-    requires { ⌜ (length (now alike) ≡ 64) × Moderate (now base) scale ⌝ ∗ ⌜ length (now slots) / 4 ≤ 256 ⌝ }
-    ensures { λ r. ⌜ Floors (now (alike .entry)) (now (base .entry)) scale (now (slots .entry)) must (now (choices .entry)) (now (price .exit)) r ⌝ }
+    requires { ⌜ (length (now alike) ≡ 64) × Moderate (now base) scale ⌝ ∗ ⌜ Bounded (now first) ⌝ }
+    ensures { λ r. ⌜ Floors (now (alike .entry)) (now (base .entry)) scale (now (first .entry)) must (now (choices .entry)) (now (price .exit)) r ⌝ }
 {
     let known = packages_of(must, alike);
     *price = raised(base, known.entries, scale.double);
     let fixed = pay_all(price, must);
-    let shared = pay_slots(price, slots, must, choices);
+    let shared = pay_slots(price, first, must, choices);
     Ground {
         sum: fixed + shared,
         credit: scale.count + scale.double * known.packages,

@@ -7,7 +7,7 @@ use Prim.Native.Nat.{ℕ, _+_, _/_, _≤_, _<_}
 use native.Mathlib.Omega.{arith}
 use borrow.Author.Count.{below-none, below-more}
 use lib.ListN.{length, getD}
-use Rattle.node.specs.Steps.{ownerIn}
+use Rattle.catalogue.specs.Spans.{ownerIn}
 use Rattle.search.specs.declared.Pick.the-variants.{Split, Complete}
 use Rattle.search.specs.declared.rank.Lead.{Lead}
 use Rattle.search.specs.Ranking.{Leads}

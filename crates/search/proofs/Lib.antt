@@ -1,3 +1,4 @@
+pub mod Choosing
 pub mod Complete
 pub mod Copying
 pub mod Falls

@@ -17,6 +17,7 @@ use Rattle.pacsolve.specs.Cost.{weightOf, amount}
 use Rattle.pacsolve.specs.Listing.{Asked}
 use Rattle.pacsolve.specs.Order.{lower}
 use Rattle.catalogue.specs.declared.Settings.{Settings}
+use Rattle.catalogue.specs.Spans.{Rising, Spans}
 use Rattle.catalogue.specs.Survey.{tabled}
 use Rattle.price.specs.declared.Scale.{Scale}
 use Rattle.price.specs.Worth.{codeAt, Scaled, BasePrices}
@@ -26,6 +27,7 @@ use Rattle.node.specs.declared.Best.{Best}
 use Rattle.node.specs.declared.Node.{Node}
 use Rattle.node.specs.Clashing.{Clashes, Alikes}
 use Rattle.node.specs.Facts.{Facts}
+use Rattle.node.proofs.Slotted.{tabled-slotted}
 use Rattle.search.specs.Found.{Posed, Whole, Above, firstly, Found, none-left, the-least, FoundUnder, none-under, found-least}
 
 module _ {p : Problem} {q : Asked} {c : Cost} {buffer₀ buffer : List ℕ} {r : Best} {buffer′ : List ℕ} (same : buffer ≡ buffer₀) where
@@ -85,12 +87,14 @@ pub posed-again : {p : Problem} {given : Best} {past buffer₀ buffer : List ℕ
 posed-again same posed = rw same posed
 
 -- what is worked out of the tables
-pub worked-out : (entries slots : List ℕ) (settings : Settings) (objectives fits : List ℕ) {given : Best} {past buffer clash alike base : List ℕ} {scale : Scale}
+pub worked-out : (entries slots : List ℕ) (settings : Settings) (objectives fits : List ℕ) {given : Best} {past buffer clash alike base first : List ℕ} {scale : Scale}
     → Posed (tabled entries slots settings objectives fits) given past buffer → ((e : ℕ) → getD entries (e * 5 + 4) 0 ≤ 65535) → Clashes entries (settings .mode) clash
-    → Alikes entries alike → Scaled objectives scale → BasePrices entries objectives scale base → Facts entries objectives (settings .mode) clash alike base scale
-worked-out entries slots settings objectives fits {base = base} {scale = scale} posed light clashes alikes scaled prices =
+    → Alikes entries alike → Scaled objectives scale → BasePrices entries objectives scale base → (Rising slots → Spans slots first) → Facts entries slots objectives (settings .mode) clash alike base first scale
+worked-out entries slots settings objectives fits {base = base} {scale = scale} posed light clashes alikes scaled prices spans =
+    let slotted = tabled-slotted entries slots settings objectives fits in
     let small = scaled-small objectives scale scaled (posed .apart) in
     record {
+      spans = spans (λ s h. rw (slotted .owner s (omega arith), slotted .owner (suc s) h) at (posed .rising s h));
       clashes = clashes;
       alikes = record { sized = alikes .sized; alike = alikes .only };
       scaled = scaled;

@@ -2,7 +2,7 @@
 use mathlib.Core.Path.{_≡_}
 use mathlib.Core.Bool.{true, false}
 use mathlib.Core.List.{List}
-use Prim.Native.Nat.{ℕ, _≤_, _<_}
+use Prim.Native.Nat.{ℕ, suc, _≤_, _<_}
 use lib.ListN.{length}
 use Rattle.bitset.specs.Bits.{Member}
 use Rattle.pacsolve.specs.Problem.{Problem}
@@ -22,6 +22,8 @@ pub record Posed (p : Problem) (given : Best) (past buffer : List ℕ) : Type 0 
   pub slots : p .slots ≤ 256
   pub root : p .root < p .entries
   pub apart : Apart (p .objectives)
+  -- owners never fall
+  pub rising : (s : ℕ) → suc s < p .slots → p .owner s ≤ p .owner (suc s)
   pub past-sized : length past ≡ p .slots
   pub plan-sized : length buffer ≡ p .slots
   pub given-costed : Costed p given

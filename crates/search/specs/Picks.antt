@@ -6,7 +6,8 @@ use Prim.Native.Nat.{ℕ, _/_, _<_}
 use lib.ListN.{length, getD}
 use Rattle.bitset.specs.Bits.{Member}
 use Rattle.pacsolve.specs.Plan.{none}
-use Rattle.node.specs.Steps.{Only, ownerIn}
+use Rattle.catalogue.specs.Spans.{ownerIn}
+use Rattle.node.specs.Steps.{Only}
 use Rattle.search.specs.declared.Pick.{Pick}
 use Rattle.search.specs.declared.Pick.the-variants.{Split, Force, Dead, Complete}
 use Rattle.search.specs.declared.pick_slot.Standing.{Standing}

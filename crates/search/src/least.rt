@@ -2,6 +2,7 @@
 // the cost; where it finds a plan, that is the least of all, and where it finds none there is none below the bound. So any rising bounds are right.
 use crate::walk::walk;
 use catalogue::Settings;
+use catalogue::spans::spans;
 use node::Best;
 use node::Node;
 use node::clash::alikes;
@@ -21,6 +22,7 @@ ghost use mathlib.Core.Path.{_≡_};
 ghost use Prim.Native.Nat.{ℕ, _+_, _/_, _≤_, _<_};
 ghost use lib.ListN.{length};
 ghost use Rattle.catalogue.specs.declared.Settings.{Settings as Setting};
+ghost use Rattle.catalogue.specs.Spans.{Bounded};
 ghost use Rattle.catalogue.specs.Survey.{tabled};
 ghost use Rattle.price.specs.Floor.{Moderate};
 ghost use Rattle.node.specs.Facts.{Facts};
@@ -56,6 +58,7 @@ fn under(bound: u32) -> Best
 fn start(
     entries: &[u16],
     slots: &[u16],
+    first: &[usize; 65],
     settings: Settings,
     objectives: &[u8],
     fits: &[u64; 256],
@@ -70,7 +73,7 @@ fn start(
     scale: Scale,
     price: &mut [u64; 64],
 ) -> Node
-    requires { ⌜ Posed (tabled (now entries) (now slots) settings (now objectives) (now fits)) given (now past) (now plan) ⌝ ∗ ⌜ (now left ≡ now fits) × (Above (tabled (now entries) (now slots) settings (now objectives) (now fits)) top × Facts (now entries) (now objectives) (settings .mode) (now clash) (now alike) (now base) scale) ⌝ }
+    requires { ⌜ Posed (tabled (now entries) (now slots) settings (now objectives) (now fits)) given (now past) (now plan) ⌝ ∗ ⌜ (now left ≡ now fits) × (Above (tabled (now entries) (now slots) settings (now objectives) (now fits)) top × Facts (now entries) (now slots) (now objectives) (settings .mode) (now clash) (now alike) (now base) (now first) scale) ⌝ }
     ensures { λ r. ⌜ Whole (tabled (now (entries .entry)) (now (slots .entry)) settings (now (objectives .entry)) (now (fits .entry))) (askedOf given (now (past .entry))) r (now (left .exit)) × (length (now (left .exit)) ≡ length (now (left .entry))) ⌝ }
 {
     let root = settings.root as u32;
@@ -84,6 +87,7 @@ fn start(
     narrow(
         entries,
         slots,
+        first,
         settings,
         objectives,
         fits,
@@ -118,7 +122,7 @@ fn first_of(ground: Ground, unit: u64, top: u32) -> u32 {
 
 // A bound to begin with: the floor of the node, or the given plan's cost. No promise rests on it.
 fn guess(
-    slots: &[u16],
+    first: &[usize; 65],
     given: Best,
     must: u64,
     left: &[u64; 256],
@@ -127,23 +131,24 @@ fn guess(
     base: &[u64; 64],
     scale: Scale,
 ) -> u32
-    requires { ⌜ (length (now alike) ≡ 64) × Moderate (now base) scale ⌝ ∗ ⌜ length (now slots) / 4 ≤ 256 ⌝ }
+    requires { ⌜ (length (now alike) ≡ 64) × Moderate (now base) scale ⌝ ∗ ⌜ Bounded (now first) ⌝ }
 {
     let mut price = [0u64; 64];
-    let ground = lay(alike, base, scale, slots, must, left, &mut price);
-    let first = first_of(ground, scale.first, top);
+    let ground = lay(alike, base, scale, first, must, left, &mut price);
+    let low = first_of(ground, scale.first, top);
     if given.found {
-        if first < given.cost.first {
+        if low < given.cost.first {
             return given.cost.first;
         }
     }
-    first
+    low
 }
 
 // One round.
 fn round(
     entries: &[u16],
     slots: &[u16],
+    first: &[usize; 65],
     settings: Settings,
     objectives: &[u8],
     fits: &[u64; 256],
@@ -158,13 +163,14 @@ fn round(
     base: &[u64; 64],
     scale: Scale,
 ) -> Best
-    requires { ⌜ Posed (tabled (now entries) (now slots) settings (now objectives) (now fits)) given (now past) (now plan) ⌝ ∗ ⌜ (length (now left) ≡ 256) × (Whole (tabled (now entries) (now slots) settings (now objectives) (now fits)) (askedOf given (now past)) node (now left) × Facts (now entries) (now objectives) (settings .mode) (now clash) (now alike) (now base) scale) ⌝ }
+    requires { ⌜ Posed (tabled (now entries) (now slots) settings (now objectives) (now fits)) given (now past) (now plan) ⌝ ∗ ⌜ (length (now left) ≡ 256) × (Whole (tabled (now entries) (now slots) settings (now objectives) (now fits)) (askedOf given (now past)) node (now left) × Facts (now entries) (now slots) (now objectives) (settings .mode) (now clash) (now alike) (now base) (now first) scale) ⌝ }
     ensures { λ r. ⌜ FoundUnder (tabled (now (entries .entry)) (now (slots .entry)) settings (now (objectives .entry)) (now (fits .entry))) (askedOf given (now (past .entry))) (firstly bound) (now (plan .entry)) r (now (plan .exit)) ⌝ }
 {
     let nothing = under(bound);
     walk(
         entries,
         slots,
+        first,
         settings,
         objectives,
         fits,
@@ -198,6 +204,7 @@ fn raised(bound: u32, more: u32, top: u32) -> u32
 fn rounds(
     entries: &[u16],
     slots: &[u16],
+    first: &[usize; 65],
     settings: Settings,
     objectives: &[u8],
     fits: &[u64; 256],
@@ -213,7 +220,7 @@ fn rounds(
     base: &[u64; 64],
     scale: Scale,
 ) -> Best
-    requires { ⌜ Posed (tabled (now entries) (now slots) settings (now objectives) (now fits)) given (now past) (now plan) ⌝ ∗ ⌜ (length (now left) ≡ 256) × ((top ≤ 4194432) × (Above (tabled (now entries) (now slots) settings (now objectives) (now fits)) top × (Whole (tabled (now entries) (now slots) settings (now objectives) (now fits)) (askedOf given (now past)) node (now left) × Facts (now entries) (now objectives) (settings .mode) (now clash) (now alike) (now base) scale))) ⌝ }
+    requires { ⌜ Posed (tabled (now entries) (now slots) settings (now objectives) (now fits)) given (now past) (now plan) ⌝ ∗ ⌜ (length (now left) ≡ 256) × ((top ≤ 4194432) × (Above (tabled (now entries) (now slots) settings (now objectives) (now fits)) top × (Whole (tabled (now entries) (now slots) settings (now objectives) (now fits)) (askedOf given (now past)) node (now left) × Facts (now entries) (now slots) (now objectives) (settings .mode) (now clash) (now alike) (now base) (now first) scale))) ⌝ }
     ensures { λ r. ⌜ Found (tabled (now (entries .entry)) (now (slots .entry)) settings (now (objectives .entry)) (now (fits .entry))) (askedOf given (now (past .entry))) (now (plan .entry)) r (now (plan .exit)) ⌝ }
 {
     let mut bound = low;
@@ -223,6 +230,7 @@ fn rounds(
         let best = round(
             entries,
             slots,
+            first,
             settings,
             objectives,
             fits,
@@ -260,6 +268,7 @@ pub fn least(
     requires { ⌜ Posed (tabled (now entries) (now slots) settings (now objectives) fits) given (now past) (now plan) ⌝ }
     ensures { λ r. ⌜ Found (tabled (now (entries .entry)) (now (slots .entry)) settings (now (objectives .entry)) fits) (askedOf given (now (past .entry))) (now (plan .entry)) r (now (plan .exit)) ⌝ }
 {
+    let first = spans(slots);
     let alike = alikes(entries);
     let clash = clashes(entries, settings.mode, &alike);
     let units = scale(objectives);
@@ -270,6 +279,7 @@ pub fn least(
     let node = start(
         entries,
         slots,
+        &first,
         settings,
         objectives,
         &fits,
@@ -288,10 +298,11 @@ pub fn least(
     if !alive {
         return under(top);
     }
-    let low = guess(slots, given, node.must, &left, top, &alike, &base, units);
+    let low = guess(&first, given, node.must, &left, top, &alike, &base, units);
     rounds(
         entries,
         slots,
+        &first,
         settings,
         objectives,
         &fits,

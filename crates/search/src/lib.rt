@@ -1,4 +1,5 @@
 // The search for the least plan: a walk over nodes, in rounds.
+mod choose;
 pub mod keep;
 pub mod least;
 mod pick_slot;

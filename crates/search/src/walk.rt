@@ -1,5 +1,6 @@
 // The walk over nodes: a node is narrowed, a slot is decided in every way that is left, and a node with nothing to decide holds one plan.
 use crate::Pick;
+use crate::choose::choose;
 use crate::keep::keep;
 use crate::pick_slot::pick;
 use catalogue::Settings;
@@ -23,10 +24,11 @@ struct Halves {
     rest: u64,
 }
 
-fn halve(all: u64) -> Halves
+// Any choice will do: one that must be there anyway if there is one, else the cheapest.
+fn halve(all: u64, must: u64, price: &[u64; 64]) -> Halves
     ensures { λ r. ⌜ (all < 2 ^ 64) × (¬ (all ≡ 0) → (e : ℕ) × Halved all (r .one) (r .rest) e) ⌝ }
 {
-    let e = bitset::lowest(all);
+    let e = choose(all, must, price);
     let one = bitset::with(0, e);
     let rest = bitset::without(all, e);
     Halves { one, rest }
@@ -45,6 +47,7 @@ fn forced(node: Node, only: u64) -> Node
 pub fn walk(
     entries: &[u16],
     slots: &[u16],
+    first: &[usize; 65],
     settings: Settings,
     objectives: &[u8],
     fits: &[u64; 256],
@@ -59,7 +62,7 @@ pub fn walk(
     base: &[u64; 64],
     scale: Scale,
 ) -> Best
-    requires { ⌜ Ready (tabled (now entries) (now slots) settings (now objectives) (now fits)) given (now past) node best (now plan) ⌝ ∗ ⌜ (length (now choices) ≡ 256) × Facts (now entries) (now objectives) (settings .mode) (now clash) (now alike) (now base) scale ⌝ }
+    requires { ⌜ Ready (tabled (now entries) (now slots) settings (now objectives) (now fits)) given (now past) node best (now plan) ⌝ ∗ ⌜ (length (now choices) ≡ 256) × Facts (now entries) (now slots) (now objectives) (settings .mode) (now clash) (now alike) (now base) (now first) scale ⌝ }
     ensures { λ r. ⌜ Walked (tabled (now (entries .entry)) (now (slots .entry)) settings (now (objectives .entry)) (now (fits .entry))) given (now (past .entry)) node (now (choices .entry)) best (now (plan .entry)) r (now (plan .exit)) ⌝ }
 {
     let mut at = node;
@@ -70,6 +73,7 @@ pub fn walk(
         at = narrow(
             entries,
             slots,
+            first,
             settings,
             objectives,
             fits,
@@ -109,11 +113,12 @@ pub fn walk(
                 at = forced(at, left[s]);
             }
             Pick::Split(s) => {
-                let halves = halve(left[s]);
+                let halves = halve(left[s], must, &price);
                 left[s] = halves.one;
                 found = walk(
                     entries,
                     slots,
+                    first,
                     settings,
                     objectives,
                     fits,

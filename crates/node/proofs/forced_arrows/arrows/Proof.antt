@@ -1,52 +1,67 @@
--- `node::forced_arrows::arrows` meets its contract. The loop's invariant: the rows hold arrows of the slots before `s`. The measure is the number of slots left.
-use Prim.Native.Nat.{_≤_, _-_, _*_}
+-- `node::forced_arrows::arrows` meets its contract. The measure is the number of live entries left.
+use Prim.Native.Nat.{_+_, _^_, _<_}
 use native.Mathlib.Omega.{arith}
 use borrow.Author.Needs.{needs}
+use Rattle.bitset.specs.Bits.{count}
+use Rattle.plan.proofs.Subsets.{lowest-below, left-count}
 use Rattle.node.specs.Arrows.{Sources}
 use Rattle.node.proofs.Arrows.{sources-none, sources-more}
 use Rattle.node.proofs.forced_arrows.arrows.Statement.{statement}
 use Rattle.node.proofs.forced_arrows.arrows.Tie as tie
 
 abbrev Inv-loop : tie.InvT-loop
-Inv-loop slots choices ban count rows₀ s₀ rows s = (s ≤ count) × Sources slots choices rows
+Inv-loop first choices live rows₀ rest₀ rows rest = (rest < 2 ^ 64) × Sources first choices rows
 
 abbrev μ-loop : tie.MeasureT-loop
-μ-loop slots choices ban count rows₀ s₀ rows s = count - s
+μ-loop first choices live rows₀ rest₀ rows rest = count rest
 
 loop-holds : tie.Need-loop-holds Inv-loop μ-loop
-loop-holds c = (search needs, sources-none)
+loop-holds c = (omega arith, sources-none)
 
-mul-owner : tie.Need-mul-owner Inv-loop μ-loop
-mul-owner c = omega arith
+lowest-requires : tie.Need-lowest-requires Inv-loop μ-loop
+lowest-requires c κs = search needs
 
-mul-owner-2 : tie.Need-mul-owner-2 Inv-loop μ-loop
-mul-owner-2 c = omega arith
+cast-at : tie.Need-cast-at Inv-loop μ-loop
+cast-at c = search needs
 
-shared-slice-read-owner : tie.Need-shared-slice-read-owner Inv-loop μ-loop
-shared-slice-read-owner c = omega arith
+without-requires : tie.Need-without-requires Inv-loop μ-loop
+without-requires c κs = search needs
 
-cast-owner : tie.Need-cast-owner Inv-loop μ-loop
-cast-owner c = omega (arith, c .shared-slice-known2 .given (c .before .before .loop .s * 4))
+mul-point-all : tie.Need-mul-point-all Inv-loop μ-loop
+mul-point-all c = omega arith
 
-mul-point : tie.Need-mul-point Inv-loop μ-loop
-mul-point c = omega arith
+element-copy-out-point-all : tie.Need-element-copy-out-point-all Inv-loop μ-loop
+element-copy-out-point-all c =
+    let low = c .before .before in
+    omega (arith, lowest-below (low .before .before .loop .inv .0) (low .lowest .ensures .some (low .before .loop-test .taken)))
 
-element-copy-out-point : tie.Need-element-copy-out-point Inv-loop μ-loop
-element-copy-out-point c = omega arith
+add-point-all : tie.Need-add-point-all Inv-loop μ-loop
+add-point-all c = omega arith
 
-point-requires : tie.Need-point-requires Inv-loop μ-loop
-point-requires c κs = c .before .before .before .before .loop .inv .1 .size
+mul-point-all-2 : tie.Need-mul-point-all-2 Inv-loop μ-loop
+mul-point-all-2 c = omega arith
 
-add-s : tie.Need-add-s Inv-loop μ-loop
-add-s c = omega arith
+element-copy-out-point-all-2 : tie.Need-element-copy-out-point-all-2 Inv-loop μ-loop
+element-copy-out-point-all-2 c =
+    let low = c .before .before .before in
+    omega (arith, lowest-below (low .before .before .loop .inv .0) (low .lowest .ensures .some (low .before .loop-test .taken)))
+
+point-all-requires : tie.Need-point-all-requires Inv-loop μ-loop
+point-all-requires c κs =
+    let low = c .before .before .before .before in
+    let below = lowest-below (low .before .before .loop .inv .0) (low .lowest .ensures .some (low .before .loop-test .taken)) in
+    (low .before .before .loop .inv .1 .size, low .before .before .before .pre (low .lowest .result + 1) (omega (arith, below)))
 
 loop-less : tie.Need-loop-less Inv-loop μ-loop
-loop-less c = omega arith
+loop-less c =
+    let low = c .before .before .before .before .before in
+    left-count (low .before .before .loop .inv .0) (low .lowest .ensures .some (low .before .loop-test .taken)) (c .before .before .before .before .without .ensures)
 
 loop-again : tie.Need-loop-again Inv-loop μ-loop
 loop-again c =
-    let at = c .before .before .before .before in
-    (omega arith, sources-more (at .loop-test .taken) (at .before .loop .inv .1) (c .point .ensures))
+    let low = c .before .before .before .before .before in
+    let below = lowest-below (low .before .before .loop .inv .0) (low .lowest .ensures .some (low .before .loop-test .taken)) in
+    (omega arith, sources-more below (low .before .before .loop .inv .1) (c .point-all .ensures))
 
 returns : tie.Need-returns Inv-loop μ-loop
 returns c = c .before .loop .inv .1
@@ -58,14 +73,15 @@ arrows-spec =
     Inv-loop
     μ-loop
     loop-holds
-    mul-owner
-    mul-owner-2
-    shared-slice-read-owner
-    cast-owner
-    mul-point
-    element-copy-out-point
-    point-requires
-    add-s
+    lowest-requires
+    cast-at
+    without-requires
+    mul-point-all
+    element-copy-out-point-all
+    add-point-all
+    mul-point-all-2
+    element-copy-out-point-all-2
+    point-all-requires
     loop-less
     loop-again
     returns)

@@ -10,7 +10,7 @@ ban-all-requires : tie.Need-ban-all-requires
 ban-all-requires c κs = search needs
 
 returns : tie.Need-returns
-returns c entries objectives fits = settled-same _ (c .ban-all .ensures)
+returns c entries slots objectives fits spans = settled-same _ (c .ban-all .ensures)
 
 arrows-requires : tie.Need-arrows-requires
 arrows-requires c κs = search needs
@@ -28,17 +28,18 @@ ban-all-requires-2 : tie.Need-ban-all-requires-2
 ban-all-requires-2 c κs = search needs
 
 returns-2 : tie.Need-returns-2
-returns-2 c entries objectives fits =
+returns-2 c entries slots objectives fits spans =
     let looped = c .before in
     let unlooped = looped .before .before in
     let followed = unlooped .before .before .before in
     let made = followed .before .before in
-    let a = c .before .before .before .before .before .before .before .before .before .before .before .before .before .args in
-    let slotted = tabled-slotted entries (a .slots .now) (a .settings) objectives fits in
-    let sources = followed .follow .ensures .keeps (a .slots .now) (a .choices .now) (made .arrows .ensures) in
+    let left = made .before .before .before in
+    let a = left .before .before .args in
+    let slotted = tabled-slotted entries slots (a .settings) objectives fits in
+    let sources = followed .follow .ensures .keeps (a .first .now) (a .choices .now) (made .arrows .ensures) in
     settled-banned _ (c .ban-all2 .ensures) (unlooped .unloop .ensures .fewer) (unlooped .unloop .ensures .sized) (λ P g i. (
-      loops-unused _ slotted (made .before .before .if1 .left) sources P g i (looped .looped .ensures),
-      names-unlooped _ slotted (made .before .before .if1 .left) sources P g i (unlooped .unloop .ensures),
+      loops-unused _ slotted spans (left .if1 .left) sources P g i (looped .looped .ensures),
+      names-unlooped _ slotted spans (left .if1 .left) sources P g i (unlooped .unloop .ensures),
     ))
 
 pub forced-arrows-spec : {M : Type 1} → statement M

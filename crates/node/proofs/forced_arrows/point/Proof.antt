@@ -5,12 +5,6 @@ use Rattle.node.proofs.Few.{of-one}
 use Rattle.node.proofs.forced_arrows.point.Statement.{statement}
 use Rattle.node.proofs.forced_arrows.point.Tie as tie
 
-has-requires : tie.Need-has-requires
-has-requires c κs = search needs
-
-returns : tie.Need-returns
-returns c = pointed-none (c .before .before .pre)
-
 held-by-requires : tie.Need-held-by-requires
 held-by-requires c κs = search needs
 
@@ -41,24 +35,22 @@ element-write-rows c = let known = c .before .before .before in of-one (known .b
 enum-told-2 : tie.Need-enum-told-2
 enum-told-2 c = search needs
 
-returns-2 : tie.Need-returns-2
-returns-2 c = pointed-none (c .before .before .before .before .before .pre)
+returns : tie.Need-returns
+returns c = pointed-none (c .before .before .before .pre)
 
-returns-3 : tie.Need-returns-3
-returns-3 c =
+returns-2 : tie.Need-returns-2
+returns-2 c =
     let known = c .before .before .before in
     let one = of-one (known .before .before .held-by .ensures) (known .e .given .1) in
-    pointed-one (known .before .before .before .before .before .pre) (one .0) (one .1) (c .with .ensures)
+    pointed-one (known .before .before .before .pre) (one .0) (one .1) (c .with .ensures)
 
-returns-4 : tie.Need-returns-4
-returns-4 c = pointed-none (c .before .before .before .before .before .pre)
+returns-3 : tie.Need-returns-3
+returns-3 c = pointed-none (c .before .before .before .pre)
 
 pub point-spec : {M : Type 1} → statement M
 point-spec =
     tie.close
     (tie.spec
-    has-requires
-    returns
     held-by-requires
     enum-told
     enum-known-e
@@ -69,6 +61,6 @@ point-spec =
     mul-rows
     element-write-rows
     enum-told-2
+    returns
     returns-2
-    returns-3
-    returns-4)
+    returns-3)

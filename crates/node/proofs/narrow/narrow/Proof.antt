@@ -12,11 +12,11 @@ use Rattle.node.proofs.narrow.once.Reads as once-reads
 use Rattle.node.proofs.narrow.same.Reads as same-reads
 
 abbrev Inv-loop : tie.InvT-loop
-Inv-loop entries slots settings objectives fits past best plan choices₀ clash alike base scale price₀ at₀ round₀ choices price at round =
+Inv-loop entries slots first settings objectives fits past best plan choices₀ clash alike base scale price₀ at₀ round₀ choices price at round =
     Rounded (tabled entries slots settings objectives fits) past best plan at₀ choices₀ at choices
 
 abbrev μ-loop : tie.MeasureT-loop
-μ-loop entries slots settings objectives fits past best plan choices₀ clash alike base scale price₀ at₀ round₀ choices price at round =
+μ-loop entries slots first settings objectives fits past best plan choices₀ clash alike base scale price₀ at₀ round₀ choices price at round =
     64 - round
 
 loop-holds : tie.Need-loop-holds Inv-loop μ-loop
@@ -25,7 +25,7 @@ loop-holds c given ready = narrowed-none refl refl refl
 once-requires : tie.Need-once-requires Inv-loop μ-loop
 once-requires c κs =
     let pre = c .before .before .before .before .before .before .before .before .before .pre in
-    record { few-slots = pre .0 .slots; one-each = pre .0 .plan-sized; rows = pre .1 .alikes .sized; moderate = pre .1 .moderate }
+    record { bounded = λ e h. omega (arith, pre .1 .spans .within e h, pre .0 .slots); few-slots = pre .0 .slots; one-each = pre .0 .plan-sized; rows = pre .1 .alikes .sized; moderate = pre .1 .moderate }
 
 returns : tie.Need-returns Inv-loop μ-loop
 returns c =

@@ -14,13 +14,13 @@ sorted-out-requires : tie.Need-sorted-out-requires
 sorted-out-requires c κs = search needs
 
 returns : tie.Need-returns
-returns c entries objectives fits past given ready facts = narrowed-by (c .before .sorted-out .ensures entries objectives fits _ (facts .clashes))
+returns c entries objectives fits past given ready facts = narrowed-by (c .before .sorted-out .ensures entries _ objectives fits _ (facts .spans) (facts .clashes))
 
 same-requires : tie.Need-same-requires
 same-requires c κs = search needs
 
 returns-2 : tie.Need-returns-2
-returns-2 c entries objectives fits past given ready facts = narrowed-by (c .before .before .before .sorted-out .ensures entries objectives fits _ (facts .clashes))
+returns-2 c entries objectives fits past given ready facts = narrowed-by (c .before .before .before .sorted-out .ensures entries _ objectives fits _ (facts .spans) (facts .clashes))
 
 walked-through-requires : tie.Need-walked-through-requires
 walked-through-requires c κs = search needs
@@ -29,8 +29,8 @@ returns-3 : tie.Need-returns-3
 returns-3 c entries objectives fits past given ready facts =
     let walked = c .before in
     let sorted = walked .before .before .before .before .before in
-    let one = sorted .sorted-out .ensures entries objectives fits _ (facts .clashes) in
-    narrowed-by (settled-then one (walked .walked-through .ensures entries objectives fits (one .fewer .more _ (ready .rooted))))
+    let one = sorted .sorted-out .ensures entries _ objectives fits _ (facts .spans) (facts .clashes) in
+    narrowed-by (settled-then one (walked .walked-through .ensures entries _ objectives fits (facts .spans) (one .fewer .more _ (ready .rooted))))
 
 same-requires-2 : tie.Need-same-requires-2
 same-requires-2 c κs = search needs
@@ -39,8 +39,8 @@ returns-4 : tie.Need-returns-4
 returns-4 c entries objectives fits past given ready facts =
     let walked = c .before .before .before in
     let sorted = walked .before .before .before .before .before in
-    let one = sorted .sorted-out .ensures entries objectives fits _ (facts .clashes) in
-    narrowed-by (settled-then one (walked .walked-through .ensures entries objectives fits (one .fewer .more _ (ready .rooted))))
+    let one = sorted .sorted-out .ensures entries _ objectives fits _ (facts .spans) (facts .clashes) in
+    narrowed-by (settled-then one (walked .walked-through .ensures entries _ objectives fits (facts .spans) (one .fewer .more _ (ready .rooted))))
 
 afford-requires : tie.Need-afford-requires
 afford-requires c κs = search needs
@@ -49,8 +49,8 @@ returns-5 : tie.Need-returns-5
 returns-5 c entries objectives fits past given ready facts =
     let walked = c .before .before .before .before .before .before in
     let sorted = walked .before .before .before .before .before in
-    let one = sorted .sorted-out .ensures entries objectives fits _ (facts .clashes) in
-    let both = settled-then one (walked .walked-through .ensures entries objectives fits (one .fewer .more _ (ready .rooted))) in
+    let one = sorted .sorted-out .ensures entries _ objectives fits _ (facts .spans) (facts .clashes) in
+    let both = settled-then one (walked .walked-through .ensures entries _ objectives fits (facts .spans) (one .fewer .more _ (ready .rooted))) in
     narrowed-then (narrowed-by both) (c .afford .ensures entries objectives fits _ past _ given (ready-more ready (both .fewer .more)) facts)
 
 pub once-spec : {M : Type 1} → statement M

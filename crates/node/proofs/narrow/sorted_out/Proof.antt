@@ -12,15 +12,14 @@ settle-requires : tie.Need-settle-requires
 settle-requires c κs = search needs
 
 returns : tie.Need-returns
-returns c entries objectives fits settings clashes = settled-tabled entries _ settings objectives fits (c .before .settle .ensures)
+returns c entries slots objectives fits settings spans clashes = settled-tabled entries slots settings objectives fits (c .before .settle .ensures slots spans)
 
 clash-banned-requires : tie.Need-clash-banned-requires
 clash-banned-requires c κs = search needs
 
 returns-2 : tie.Need-returns-2
-returns-2 c entries objectives fits settings clashes =
-    let slots = c .before .before .before .before .before .args .slots .now in
-    settled-then (settled-tabled entries slots settings objectives fits (c .before .before .settle .ensures)) (c .clash-banned .ensures entries slots objectives fits _ settings clashes)
+returns-2 c entries slots objectives fits settings spans clashes =
+    settled-then (settled-tabled entries slots settings objectives fits (c .before .before .settle .ensures slots spans)) (c .clash-banned .ensures entries slots objectives fits _ settings clashes)
 
 pub sorted-out-spec : {M : Type 1} → statement M
 sorted-out-spec = tie.close (tie.spec settle-requires returns clash-banned-requires returns-2)

@@ -13,24 +13,24 @@ grounded-requires : tie.Need-grounded-requires
 grounded-requires c κs = search needs
 
 returns : tie.Need-returns
-returns c entries objectives fits root = c .before .grounded .ensures entries objectives fits
+returns c entries slots objectives fits spans root = c .before .grounded .ensures entries slots objectives fits spans
 
 forced-arrows-requires : tie.Need-forced-arrows-requires
 forced-arrows-requires c κs = search needs
 
 returns-2 : tie.Need-returns-2
-returns-2 c entries objectives fits root =
-    settled-then (c .before .before .before .before .grounded .ensures entries objectives fits) (c .before .forced-arrows .ensures entries objectives fits)
+returns-2 c entries slots objectives fits spans root =
+    settled-then (c .before .before .before .before .grounded .ensures entries slots objectives fits spans) (c .before .forced-arrows .ensures entries slots objectives fits spans)
 
 within-reach-requires : tie.Need-within-reach-requires
 within-reach-requires c κs = search needs
 
 returns-3 : tie.Need-returns-3
-returns-3 c entries objectives fits root =
+returns-3 c entries slots objectives fits spans root =
     let arrows = c .before .before .before in
     let ground = arrows .before .before .before in
-    let both = settled-then (ground .grounded .ensures entries objectives fits) (arrows .forced-arrows .ensures entries objectives fits) in
-    settled-then both (c .within-reach .ensures entries objectives fits _ (both .fewer .more _ root))
+    let both = settled-then (ground .grounded .ensures entries slots objectives fits spans) (arrows .forced-arrows .ensures entries slots objectives fits spans) in
+    settled-then both (c .within-reach .ensures entries slots objectives fits _ spans (both .fewer .more _ root))
 
 pub walked-through-spec : {M : Type 1} → statement M
 walked-through-spec =

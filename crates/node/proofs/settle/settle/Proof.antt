@@ -1,68 +1,79 @@
--- `node::settle::settle` meets its contract: the slots before `s` are settled.
+-- `node::settle::settle` meets its contract: the entries passed are settled.
 use mathlib.Core.Path.{refl}
-use Prim.Native.Nat.{_≤_, _-_, _*_}
+use mathlib.Core.List.{List}
+use Prim.Native.Nat.{ℕ}
 use native.Mathlib.Omega.{arith}
 use borrow.Author.Needs.{needs}
+use Rattle.bitset.specs.Bits.{count}
+use Rattle.catalogue.specs.Spans.{Spans}
+use Rattle.catalogue.proofs.Spanned.{span-owner}
+use Rattle.plan.proofs.MemberWalk.{Walked, walk-start, walk-less, walk-on}
+use Rattle.plan.proofs.Subsets.{lowest-below}
 use Rattle.node.specs.Settling.{SettledBy}
-use Rattle.node.proofs.Settling.{settled-none, settled-more, settled-clash}
+use Rattle.node.proofs.Settling.{settled-none, settled-clash}
 use Rattle.node.proofs.settle.settle.Statement.{statement}
 use Rattle.node.proofs.settle.settle.Tie as tie
+use Rattle.node.proofs.settle.settle.Reads as reads
+use Rattle.node.proofs.settle.settle.Lts as lts
+use Rattle.bitset.proofs.lowest.Reads as lowest-reads
+use Rattle.bitset.proofs.without.Reads as without-reads
+use Rattle.node.proofs.settle.settle_entry.Reads as settle-entry-reads
 
 abbrev Inv-loop : tie.InvT-loop
-Inv-loop slots choices₀ count known₀ s₀ choices known s = (s ≤ count) × SettledBy slots known₀ known choices₀ choices
+Inv-loop first choices₀ known₀ rest₀ choices known rest =
+    Walked rest₀ rest (λ e. Unit {0}) × ((slots : List ℕ) → Spans slots first → SettledBy slots known₀ known choices₀ choices)
 
 abbrev μ-loop : tie.MeasureT-loop
-μ-loop slots choices₀ count known₀ s₀ choices known s = count - s
+μ-loop first choices₀ known₀ rest₀ choices known rest = count rest
 
 loop-holds : tie.Need-loop-holds Inv-loop μ-loop
-loop-holds c = (search needs, settled-none _ _ _ refl)
+loop-holds c = (walk-start _ (omega arith), λ slots spans. settled-none slots _ _ refl)
 
-mul-settle-slot : tie.Need-mul-settle-slot Inv-loop μ-loop
-mul-settle-slot c = omega arith
+lowest-requires : tie.Need-lowest-requires Inv-loop μ-loop
+lowest-requires c κs = search needs
 
-mul-settle-slot-2 : tie.Need-mul-settle-slot-2 Inv-loop μ-loop
-mul-settle-slot-2 c = omega arith
+without-requires : tie.Need-without-requires Inv-loop μ-loop
+without-requires c κs = search needs
 
-shared-slice-read-settle-slot : tie.Need-shared-slice-read-settle-slot Inv-loop μ-loop
-shared-slice-read-settle-slot c = omega arith
+cast-i : tie.Need-cast-i Inv-loop μ-loop
+cast-i c = search needs
 
-cast-settle-slot : tie.Need-cast-settle-slot Inv-loop μ-loop
-cast-settle-slot c = omega (arith, c .shared-slice-known2 .given (c .before .before .loop .s * 4))
+mul-settle-entry : tie.Need-mul-settle-entry Inv-loop μ-loop
+mul-settle-entry c = omega (arith, lowest-below (c .before .before .before .loop .inv .0 .fits) (c .before .lowest .ensures .some (c .before .before .loop-test .taken)))
 
-mul-settle-slot-3 : tie.Need-mul-settle-slot-3 Inv-loop μ-loop
-mul-settle-slot-3 c = omega arith
+element-copy-out-settle-entry : tie.Need-element-copy-out-settle-entry Inv-loop μ-loop
+element-copy-out-settle-entry c = omega (arith, lowest-below (c .before .before .before .loop .inv .0 .fits) (c .before .lowest .ensures .some (c .before .before .loop-test .taken)))
 
-element-copy-out-settle-slot : tie.Need-element-copy-out-settle-slot Inv-loop μ-loop
-element-copy-out-settle-slot c = omega arith
+add-settle-entry : tie.Need-add-settle-entry Inv-loop μ-loop
+add-settle-entry c = omega (arith, lowest-below (c .before .before .before .before .loop .inv .0 .fits) (c .before .before .lowest .ensures .some (c .before .before .before .loop-test .taken)))
 
-settle-slot-requires : tie.Need-settle-slot-requires Inv-loop μ-loop
-settle-slot-requires c κs = search needs
+mul-settle-entry-2 : tie.Need-mul-settle-entry-2 Inv-loop μ-loop
+mul-settle-entry-2 c = omega (arith, lowest-below (c .before .before .before .before .loop .inv .0 .fits) (c .before .before .lowest .ensures .some (c .before .before .before .loop-test .taken)))
 
-mul-choices : tie.Need-mul-choices Inv-loop μ-loop
-mul-choices c = omega arith
+element-copy-out-settle-entry-2 : tie.Need-element-copy-out-settle-entry-2 Inv-loop μ-loop
+element-copy-out-settle-entry-2 c = omega (arith, lowest-below (c .before .before .before .before .loop .inv .0 .fits) (c .before .before .lowest .ensures .some (c .before .before .before .loop-test .taken)))
 
-element-write-choices : tie.Need-element-write-choices Inv-loop μ-loop
-element-write-choices c = omega arith
-
-add-s : tie.Need-add-s Inv-loop μ-loop
-add-s c = omega arith
+settle-entry-requires : tie.Need-settle-entry-requires Inv-loop μ-loop
+settle-entry-requires c κs = c .before .before .before .before .before .before .before .before .pre _ (omega (arith, lowest-below (c .before .before .before .before .before .before .loop .inv .0 .fits) (c .before .before .before .before .lowest .ensures .some (c .before .before .before .before .before .loop-test .taken))))
 
 loop-less : tie.Need-loop-less Inv-loop μ-loop
-loop-less c = omega arith
+loop-less c = walk-less (c .before .before .before .before .before .before .before .loop .inv .0) (c .before .before .before .before .before .before .loop-test .taken) (c .before .before .before .before .before .lowest .ensures) (c .before .before .before .before .without .ensures)
 
 loop-again : tie.Need-loop-again Inv-loop μ-loop
 loop-again c = (
-  omega arith,
-  settled-more _ _ _ _ _ _ _ (c .before .before .before .before .loop-test .taken) (c .before .before .before .before .before .loop .inv .1) (c .before .settle-slot .ensures),
+  walk-on (c .before .before .before .before .before .before .before .loop .inv .0) (c .before .before .before .before .before .before .loop-test .taken) (c .before .before .before .before .before .lowest .ensures) (c .before .before .before .before .without .ensures) tt,
+  λ slots spans. c .settle-entry .ensures slots _ _ (λ s. span-owner spans _ s (lowest-below (c .before .before .before .before .before .before .before .loop .inv .0 .fits) (c .before .before .before .before .before .lowest .ensures .some (c .before .before .before .before .before .before .loop-test .taken)))) (c .before .before .before .before .before .before .before .loop .inv .1 slots spans),
 )
 
 returns : tie.Need-returns Inv-loop μ-loop
-returns c =
-    let clash = settled-clash _ _ _ _ _ (c .before .before .before .loop .inv .1) (c .if1 .taken) in
+returns c slots spans =
+    let clash = settled-clash slots _ _ _ _ (c .before .before .before .loop .inv .1 slots spans) (c .if1 .taken) in
     record { fewer = clash .fewer; keeps = clash .keeps }
 
 returns-2 : tie.Need-returns-2 Inv-loop μ-loop
-returns-2 c = record { fewer = c .before .before .before .loop .inv .1 .fewer; keeps = c .before .before .before .loop .inv .1 .keeps }
+returns-2 c slots spans =
+    let all = c .before .before .before .loop .inv .1 slots spans in
+    record { fewer = all .fewer; keeps = all .keeps }
 
 pub settle-spec : {M : Type 1} → statement M
 settle-spec =
@@ -71,16 +82,15 @@ settle-spec =
     Inv-loop
     μ-loop
     loop-holds
-    mul-settle-slot
-    mul-settle-slot-2
-    shared-slice-read-settle-slot
-    cast-settle-slot
-    mul-settle-slot-3
-    element-copy-out-settle-slot
-    settle-slot-requires
-    mul-choices
-    element-write-choices
-    add-s
+    lowest-requires
+    without-requires
+    cast-i
+    mul-settle-entry
+    element-copy-out-settle-entry
+    add-settle-entry
+    mul-settle-entry-2
+    element-copy-out-settle-entry-2
+    settle-entry-requires
     loop-less
     loop-again
     returns

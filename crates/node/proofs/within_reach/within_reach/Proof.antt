@@ -14,10 +14,9 @@ ban-all-requires : tie.Need-ban-all-requires
 ban-all-requires c κs = search needs
 
 returns : tie.Need-returns
-returns c entries objectives fits settings root =
-    let a = c .before .before .before .args in
+returns c entries slots objectives fits settings spans root =
     settled-banned _ (c .ban-all .ensures) (λ s e m. m) refl
-    (λ P g i. (out-unused _ (tabled-slotted entries (a .slots .now) settings objectives fits) root (c .before .out-of-reach .ensures) P g i, i .names))
+    (λ P g i. (out-unused _ (tabled-slotted entries slots settings objectives fits) root (c .before .out-of-reach .ensures slots spans) P g i, i .names))
 
 pub within-reach-spec : {M : Type 1} → statement M
 within-reach-spec = tie.close (tie.spec out-of-reach-requires ban-all-requires returns)

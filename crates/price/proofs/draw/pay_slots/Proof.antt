@@ -1,62 +1,78 @@
--- `price::draw::pay_slots` meets its contract: what the slots below s have in common is drawn.
-use Prim.Native.Nat.{_-_, _*_}
+-- `price::draw::pay_slots` meets its contract: what it draws for a member passed is drawn from every set that has a choice of each slot.
+use Prim.Native.Nat.{_<_}
 use native.Mathlib.Omega.{arith}
 use borrow.Author.Needs.{needs}
-use Rattle.price.proofs.Drawing.{Serving, serving-start, serving-on, serving-end}
+use Rattle.bitset.specs.Bits.{count}
+use Rattle.bitset.proofs.Sets.{member-below}
+use Rattle.plan.proofs.MemberWalk.{Walked, walk-start, walk-at, walk-less, walk-on}
+use Rattle.price.specs.Prices.{Serves, Drawn}
+use Rattle.price.proofs.Drawing.{drawn-none, drawn-more, low-after}
 use Rattle.price.proofs.draw.pay_slots.Statement.{statement}
 use Rattle.price.proofs.draw.pay_slots.Tie as tie
 use Rattle.price.proofs.draw.pay_slots.Reads as reads
 use Rattle.price.proofs.draw.pay_slots.Lts as lts
-use Rattle.price.proofs.draw.pay_slot.Reads as pay-slot-reads
+use Rattle.bitset.proofs.lowest.Reads as lowest-reads
+use Rattle.bitset.proofs.without.Reads as without-reads
+use Rattle.price.proofs.draw.pay_entry.Reads as pay-entry-reads
 
 abbrev Inv-loop : tie.InvT-loop
-Inv-loop price₀ slots must choices count sum₀ s₀ price sum s = Serving slots must choices price₀ price sum s
+Inv-loop price₀ first must choices sum₀ rest₀ price sum rest = Walked must rest (λ e. Unit {0}) × Drawn (Serves first must choices) price₀ price sum
 
 abbrev μ-loop : tie.MeasureT-loop
-μ-loop price₀ slots must choices count sum₀ s₀ price sum s = count - s
+μ-loop price₀ first must choices sum₀ rest₀ price sum rest = count rest
 
 loop-holds : tie.Need-loop-holds Inv-loop μ-loop
-loop-holds c = serving-start _ _ _ _
+loop-holds c = (walk-start _ (omega arith), drawn-none _)
 
-mul-pay-slot : tie.Need-mul-pay-slot Inv-loop μ-loop
-mul-pay-slot c = omega arith
+lowest-requires : tie.Need-lowest-requires Inv-loop μ-loop
+lowest-requires c κs = search needs
 
-mul-pay-slot-2 : tie.Need-mul-pay-slot-2 Inv-loop μ-loop
-mul-pay-slot-2 c = omega arith
+small : (c : tie.After-lowest Inv-loop μ-loop) → c .lowest .result < 64
+small c = member-below 64 _ _ (c .before .before .loop .inv .0 .fits) (c .lowest .ensures .some (c .before .loop-test .taken) .member)
 
-shared-slice-read-pay-slot : tie.Need-shared-slice-read-pay-slot Inv-loop μ-loop
-shared-slice-read-pay-slot c = omega arith
+cast-i : tie.Need-cast-i Inv-loop μ-loop
+cast-i c = omega (arith, small c)
 
-cast-pay-slot : tie.Need-cast-pay-slot Inv-loop μ-loop
-cast-pay-slot c = omega (arith, c .shared-slice-known2 .given (c .before .before .before .loop .s * 4))
+mul-pay-entry : tie.Need-mul-pay-entry Inv-loop μ-loop
+mul-pay-entry c = omega (arith, small (c .before))
 
-mul-pay-slot-3 : tie.Need-mul-pay-slot-3 Inv-loop μ-loop
-mul-pay-slot-3 c = omega arith
+element-copy-out-pay-entry : tie.Need-element-copy-out-pay-entry Inv-loop μ-loop
+element-copy-out-pay-entry c = omega (arith, small (c .before))
 
-element-copy-out-pay-slot : tie.Need-element-copy-out-pay-slot Inv-loop μ-loop
-element-copy-out-pay-slot c = omega arith
+add-pay-entry : tie.Need-add-pay-entry Inv-loop μ-loop
+add-pay-entry c = omega (arith, small (c .before .before))
 
-pay-slot-requires : tie.Need-pay-slot-requires Inv-loop μ-loop
-pay-slot-requires c κs = search needs
+mul-pay-entry-2 : tie.Need-mul-pay-entry-2 Inv-loop μ-loop
+mul-pay-entry-2 c = omega (arith, small (c .before .before))
+
+element-copy-out-pay-entry-2 : tie.Need-element-copy-out-pay-entry-2 Inv-loop μ-loop
+element-copy-out-pay-entry-2 c = omega (arith, small (c .before .before))
+
+pay-entry-requires : tie.Need-pay-entry-requires Inv-loop μ-loop
+pay-entry-requires c κs = (low-after (c .before .before .before .before .before .before .pre .0) (c .before .before .before .before .before .loop .inv .1) .0, c .before .before .before .before .before .before .pre .1 _ (omega (arith, small (c .before .before .before))))
 
 add-sum : tie.Need-add-sum Inv-loop μ-loop
-add-sum c =
-    let at = c .before .before .before .before .before in
-    omega (arith, at .loop .inv .drawn .whole, c .pay-slot .ensures .whole, at .before .before .pre .0 .1)
+add-sum c = omega (arith, c .before .before .before .before .before .before .loop .inv .1 .whole, c .pay-entry .ensures .whole, c .before .before .before .before .before .before .before .pre .0 .1)
 
-add-s : tie.Need-add-s Inv-loop μ-loop
-add-s c = omega arith
+without-requires : tie.Need-without-requires Inv-loop μ-loop
+without-requires c κs = search needs
 
 loop-less : tie.Need-loop-less Inv-loop μ-loop
-loop-less c = omega arith
+loop-less c =
+    let low = c .before .before .before .before .before in
+    walk-less (low .before .before .loop .inv .0) (low .before .loop-test .taken) (low .lowest .ensures) (c .without .ensures)
 
 loop-again : tie.Need-loop-again Inv-loop μ-loop
 loop-again c =
-    let in-loop = c .before .before .before .before in
-    serving-on (in-loop .before .loop .inv) (in-loop .loop-test .taken) (c .pay-slot .ensures)
+    let low = c .before .before .before .before .before in
+    let inv = low .before .before .loop .inv in
+    let some = low .before .loop-test .taken in (
+      walk-on (inv .0) some (low .lowest .ensures) (c .without .ensures) tt,
+      drawn-more (inv .1) (c .before .pay-entry .ensures) (λ set q s. q _ s (small low) (walk-at (inv .0) some (low .lowest .ensures))),
+    )
 
 returns : tie.Need-returns Inv-loop μ-loop
-returns c = serving-end (c .before .loop .inv) (c .loop-test .left)
+returns c = c .before .loop .inv .1
 
 pub pay-slots-spec : {M : Type 1} → statement M
 pay-slots-spec =
@@ -65,15 +81,16 @@ pay-slots-spec =
     Inv-loop
     μ-loop
     loop-holds
-    mul-pay-slot
-    mul-pay-slot-2
-    shared-slice-read-pay-slot
-    cast-pay-slot
-    mul-pay-slot-3
-    element-copy-out-pay-slot
-    pay-slot-requires
+    lowest-requires
+    cast-i
+    mul-pay-entry
+    element-copy-out-pay-entry
+    add-pay-entry
+    mul-pay-entry-2
+    element-copy-out-pay-entry-2
+    pay-entry-requires
     add-sum
-    add-s
+    without-requires
     loop-less
     loop-again
     returns)

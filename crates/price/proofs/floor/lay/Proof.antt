@@ -4,7 +4,6 @@ use Rattle.price.proofs.Drawing.{low-after}
 use Rattle.price.proofs.Grounds.{laid, credit-fits}
 use native.Mathlib.Omega.{arith}
 use borrow.Author.Needs.{needs}
-use borrow.Author.Needs.{needs}
 use Rattle.price.proofs.floor.lay.Statement.{statement}
 use Rattle.price.proofs.floor.lay.Tie as tie
 use Rattle.price.proofs.floor.lay.Reads as reads
@@ -23,21 +22,21 @@ raised-requires c κs = search needs
 pay-all-requires : tie.Need-pay-all-requires
 pay-all-requires c κs =
     let made = c .before in
-    let pre = made .before .before .before .pre .0 in
+    let pre = made .before .before .pre .0 in
     raised-low _ _ _ _ (pre .1 .each) (pre .1 .small .double) (made .raised .ensures)
 
 pay-slots-requires : tie.Need-pay-slots-requires
 pay-slots-requires c κs =
     let paid = c .before in
     let made = paid .before .before in
-    let pre = made .before .before .before .pre in
+    let pre = made .before .before .pre in
     (low-after (raised-low _ _ _ _ (pre .0 .1 .each) (pre .0 .1 .small .double) (made .raised .ensures)) (paid .pay-all .ensures) .0, pre .1)
 
 add-t14 : tie.Need-add-t14
 add-t14 c =
     let all = c .before .before in
     let made = all .before .before in
-    let pre = made .before .before .before .pre .0 .1 in
+    let pre = made .before .before .pre .0 .1 in
     let low = raised-low _ _ _ _ (pre .each) (pre .small .double) (made .raised .ensures) in
     let after = low-after low (all .pay-all .ensures) in
     omega (arith, after .1, low-after (after .0) (c .pay-slots .ensures) .1)
@@ -45,12 +44,12 @@ add-t14 c =
 mul-t15 : tie.Need-mul-t15
 mul-t15 c =
     let known = c .before .before .before .before .before .before .before in
-    omega (arith, credit-fits _ _ (known .before .before .pre .0 .1 .small) (known .packages-of .ensures .0) .0)
+    omega (arith, credit-fits _ _ (known .before .pre .0 .1 .small) (known .packages-of .ensures .0) .0)
 
 add-t16 : tie.Need-add-t16
 add-t16 c =
     let known = c .before .before .before .before .before .before .before .before in
-    omega (arith, credit-fits _ _ (known .before .before .pre .0 .1 .small) (known .packages-of .ensures .0) .1)
+    omega (arith, credit-fits _ _ (known .before .pre .0 .1 .small) (known .packages-of .ensures .0) .1)
 
 returns : tie.Need-returns
 returns c =
@@ -58,7 +57,7 @@ returns c =
     let all = paid .before .before in
     let made = all .before .before in
     let known = made .before in
-    laid (known .before .before .pre .0 .1) (known .packages-of .ensures .1) (known .packages-of .ensures .0) (made .raised .ensures) (all .pay-all .ensures) (paid .pay-slots .ensures)
+    laid (known .before .pre .0 .1) (known .packages-of .ensures .1) (known .packages-of .ensures .0) (made .raised .ensures) (all .pay-all .ensures) (paid .pay-slots .ensures)
 
 pub lay-spec : {M : Type 1} → statement M
 lay-spec =

@@ -5,8 +5,8 @@ use lib.ListN.{getD}
 use native.Mathlib.Omega.{arith}
 use borrow.Author.Needs.{needs}
 use Rattle.catalogue.specs.Survey.{tabled}
-use Rattle.price.proofs.Worth.{light}
 use Rattle.plan.proofs.costs.weight.Reads as weight-reads
+use Rattle.price.proofs.Worth.{light}
 use Rattle.search.proofs.Rounds.{above-all}
 use Rattle.search.proofs.least.above.Statement.{statement}
 use Rattle.search.proofs.least.above.Tie as tie

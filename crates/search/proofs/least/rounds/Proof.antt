@@ -13,11 +13,11 @@ use Rattle.search.proofs.least.rounds.Reads as reads
 use Rattle.search.proofs.least.rounds.Lts as lts
 
 abbrev Inv-loop : tie.InvT-loop
-Inv-loop entries slots settings objectives fits given past node left low top plan₀ clash alike base scale bound₀ more₀ plan bound more =
+Inv-loop entries slots first settings objectives fits given past node left low top plan₀ clash alike base scale bound₀ more₀ plan bound more =
     (plan ≡ plan₀) × ((1 ≤ more) × (more ≤ bound + 1))
 
 abbrev μ-loop : tie.MeasureT-loop
-μ-loop entries slots settings objectives fits given past node left low top plan₀ clash alike base scale bound₀ more₀ plan bound more =
+μ-loop entries slots first settings objectives fits given past node left low top plan₀ clash alike base scale bound₀ more₀ plan bound more =
     top - bound
 
 loop-holds : tie.Need-loop-holds Inv-loop μ-loop
@@ -32,13 +32,13 @@ round-requires c κs =
     (posed-again (c .before .before .loop .inv .0) (pre .0), (pre .1 .0, (pre .1 .1 .1 .1 .0, pre .1 .1 .1 .1 .1)))
 
 same-length : tie.Need-same-length Inv-loop μ-loop
-same-length c = c .before .before .before .round .kept .1 .1 .1 .1 .1 .1 .1 .1 .1 .1 .0 ∙ ap length (c .before .before .before .before .before .before .loop .inv .0)
+same-length c = c .before .before .before .round .kept .1 .1 .1 .1 .1 .1 .1 .1 .1 .1 .1 .0 ∙ ap length (c .before .before .before .before .before .before .loop .inv .0)
 
 returns : tie.Need-returns Inv-loop μ-loop
 returns c = found-in-round (c .before .before .before .before .before .before .loop .inv .0) (c .if1 .taken) (c .before .before .before .round .ensures)
 
 same-length-2 : tie.Need-same-length-2 Inv-loop μ-loop
-same-length-2 c = c .before .before .before .before .round .kept .1 .1 .1 .1 .1 .1 .1 .1 .1 .1 .0 ∙ ap length (c .before .before .before .before .before .before .before .loop .inv .0)
+same-length-2 c = c .before .before .before .before .round .kept .1 .1 .1 .1 .1 .1 .1 .1 .1 .1 .1 .0 ∙ ap length (c .before .before .before .before .before .before .before .loop .inv .0)
 
 returns-2 : tie.Need-returns-2 Inv-loop μ-loop
 returns-2 c = found-at-last (c .before .before .before .before .before .before .before .before .before .before .before .before .before .pre .1 .1 .1 .0) (c .if2 .taken) (c .before .before .before .before .before .before .before .loop .inv .0) (c .before .before .before .before .round .ensures)

@@ -6,7 +6,7 @@ use borrow.Author.Needs.{needs}
 use borrow.Author.Count.{below-none}
 use lib.ListN.{length, getD, length-set}
 use Rattle.pacsolve.specs.Plan.{none}
-use Rattle.node.specs.Steps.{ownerIn}
+use Rattle.catalogue.specs.Spans.{ownerIn}
 use Rattle.node.proofs.Stores.{stored-more}
 use Rattle.search.specs.Picks.{Entered}
 use Rattle.search.proofs.table.table_of.Statement.{statement}

@@ -25,14 +25,14 @@ use lib.Seq.{set-set}
 use Rattle.search.proofs.walk.+walk.{statement}
 use Rattle.search.proofs.walk.+walk.Tie.{close}
 
-abbrev μ-walk : Measures 10 walk-kinds.ps ℕ
-μ-walk κs a = remaining (a .1 .1 .1 .1 .1 .1 .1 .0 .must) (a .1 .1 .1 .1 .1 .1 .1 .1 .0 .now)
+abbrev μ-walk : Measures 11 walk-kinds.ps ℕ
+μ-walk κs a = remaining (a .1 .1 .1 .1 .1 .1 .1 .1 .0 .must) (a .1 .1 .1 .1 .1 .1 .1 .1 .1 .0 .now)
 
-abbrev walk-at : ℕ → In 10 walk-kinds.ps
-walk-at t = and 10 walk-kinds.ps (is 10 walk-kinds.ps μ-walk t) walk.Pre
+abbrev walk-at : ℕ → In 11 walk-kinds.ps
+walk-at t = and 11 walk-kinds.ps (is 11 walk-kinds.ps μ-walk t) walk.Pre
 
-abbrev walk-below : ℕ → In 10 walk-kinds.ps
-walk-below t = and 10 walk-kinds.ps (falls 10 walk-kinds.ps _<_ μ-walk t) walk.Pre
+abbrev walk-below : ℕ → In 11 walk-kinds.ps
+walk-below t = and 11 walk-kinds.ps (falls 11 walk-kinds.ps _<_ μ-walk t) walk.Pre
 
 abbrev claims : ℕ → walk-lts.Claims
 claims t = (
@@ -51,11 +51,11 @@ claims t = (
 )
 
 abbrev walk-Inv-loop : walk-lts.InvT-loop
-walk-Inv-loop entries slots settings objectives fits given past choices plan₀ clash alike base scale at₀ left₀ found₀ price₀ plan at left found price =
+walk-Inv-loop entries slots first settings objectives fits given past choices plan₀ clash alike base scale at₀ left₀ found₀ price₀ plan at left found price =
     Looping (tabled entries slots settings objectives fits) given past at₀ left₀ found₀ plan₀ at left found plan
 
 abbrev walk-μ-loop : walk-lts.MeasureT-loop
-walk-μ-loop entries slots settings objectives fits given past choices plan₀ clash alike base scale at₀ left₀ found₀ price₀ plan at left found price =
+walk-μ-loop entries slots first settings objectives fits given past choices plan₀ clash alike base scale at₀ left₀ found₀ price₀ plan at left found price =
     remaining (at .must) left
 
 walk-loop-holds : (t : ℕ) → walk-lts.Need-loop-holds (claims t) (walk-at t) walk.Post walk-Inv-loop walk-μ-loop
@@ -136,43 +136,43 @@ walk-halve-requires : (t : ℕ) → walk-lts.Need-halve-requires (claims t) (wal
 walk-halve-requires t c κs = tt
 
 walk-mul-left : (t : ℕ) → walk-lts.Need-mul-left (claims t) (walk-at t) walk.Post walk-Inv-loop walk-μ-loop
-walk-mul-left t c = let x = picked-split _ _ _ (c .before .before .before .before .pick .result) _ (c .before .before .s2 .given .1) (c .before .before .before .before .pick .ensures) in omega (arith, x .due .there, c .before .before .before .before .before .before .before .before .before .before .before .before .before .before .before .before .before .before .before .pre .1 .0 .slots)
+walk-mul-left t c = let x = picked-split _ _ _ (c .before .before .before .before .before .pick .result) _ (c .before .before .before .s2 .given .1) (c .before .before .before .before .before .pick .ensures) in omega (arith, x .due .there, c .before .before .before .before .before .before .before .before .before .before .before .before .before .before .before .before .before .before .before .before .pre .1 .0 .slots)
 
 walk-array-write-left : (t : ℕ) → walk-lts.Need-array-write-left (claims t) (walk-at t) walk.Post walk-Inv-loop walk-μ-loop
-walk-array-write-left t c = let x = picked-split _ _ _ (c .before .before .before .before .pick .result) _ (c .before .before .s2 .given .1) (c .before .before .before .before .pick .ensures) in omega (arith, x .due .there, c .before .before .before .before .before .before .before .before .before .before .before .before .before .before .before .before .before .before .before .pre .1 .0 .slots)
+walk-array-write-left t c = let x = picked-split _ _ _ (c .before .before .before .before .before .pick .result) _ (c .before .before .before .s2 .given .1) (c .before .before .before .before .before .pick .ensures) in omega (arith, x .due .there, c .before .before .before .before .before .before .before .before .before .before .before .before .before .before .before .before .before .before .before .before .pre .1 .0 .slots)
 
 walk-walk-requires : (t : ℕ) → walk-lts.Need-walk-requires (claims t) (walk-at t) walk.Post walk-Inv-loop walk-μ-loop
 walk-walk-requires t c κs =
-    let x = picked-split _ _ _ (c .before .before .before .before .before .before .pick .result) _ (c .before .before .before .before .s2 .given .1) (c .before .before .before .before .before .before .pick .ensures) in
+    let x = picked-split _ _ _ (c .before .before .before .before .before .before .before .pick .result) _ (c .before .before .before .before .before .s2 .given .1) (c .before .before .before .before .before .before .before .pick .ensures) in
     let h = c .before .before .halve .ensures in
     let e = h .1 (some-choice _ _ _ _ x) in
-    let going = loop-narrowed _ _ _ _ _ _ _ _ _ _ _ (c .before .before .before .before .before .before .before .before .before .before .before .before .before .before .loop .inv) _ _ (c .before .before .before .before .before .before .before .before .before .before .narrow .ensures) in
+    let going = loop-narrowed _ _ _ _ _ _ _ _ _ _ _ (c .before .before .before .before .before .before .before .before .before .before .before .before .before .before .before .loop .inv) _ _ (c .before .before .before .before .before .before .before .before .before .before .before .narrow .ensures) in
     let d = another _ _ _ _ x (e .0) in
-    let less = child-less _ _ _ _ _ _ _ _ _ _ _ going _ (tabled-slotted (c .before .before .before .before .before .before .before .before .before .before .before .before .before .before .before .before .before .before .before .before .before .args .entries .now) (c .before .before .before .before .before .before .before .before .before .before .before .before .before .before .before .before .before .before .before .before .before .args .slots .now) (c .before .before .before .before .before .before .before .before .before .before .before .before .before .before .before .before .before .before .before .before .before .args .settings) (c .before .before .before .before .before .before .before .before .before .before .before .before .before .before .before .before .before .before .before .before .before .args .objectives .now) (c .before .before .before .before .before .before .before .before .before .before .before .before .before .before .before .before .before .before .before .before .before .args .fits .now)) _ (e .0) (x .due) (h .0) _ _ (e .1) (d .0) (d .1) (d .2) in
-    (omega (arith, less, going .falling, c .before .before .before .before .before .before .before .before .before .before .before .before .before .before .before .before .before .before .before .before .before .pre .0), (going .ready, (rw (length-set _ _ _) (going .sized), c .before .before .before .before .before .before .before .before .before .before .before .before .before .before .before .before .before .before .before .before .before .pre .1 .1 .1)))
+    let less = child-less _ _ _ _ _ _ _ _ _ _ _ going _ (tabled-slotted (c .before .before .before .before .before .before .before .before .before .before .before .before .before .before .before .before .before .before .before .before .before .before .args .entries .now) (c .before .before .before .before .before .before .before .before .before .before .before .before .before .before .before .before .before .before .before .before .before .before .args .slots .now) (c .before .before .before .before .before .before .before .before .before .before .before .before .before .before .before .before .before .before .before .before .before .before .args .settings) (c .before .before .before .before .before .before .before .before .before .before .before .before .before .before .before .before .before .before .before .before .before .before .args .objectives .now) (c .before .before .before .before .before .before .before .before .before .before .before .before .before .before .before .before .before .before .before .before .before .before .args .fits .now)) _ (e .0) (x .due) (h .0) _ _ (e .1) (d .0) (d .1) (d .2) in
+    (omega (arith, less, going .falling, c .before .before .before .before .before .before .before .before .before .before .before .before .before .before .before .before .before .before .before .before .before .before .pre .0), (going .ready, (rw (length-set _ _ _) (going .sized), c .before .before .before .before .before .before .before .before .before .before .before .before .before .before .before .before .before .before .before .before .before .before .pre .1 .1 .1)))
 
 walk-mul-left-2 : (t : ℕ) → walk-lts.Need-mul-left-2 (claims t) (walk-at t) walk.Post walk-Inv-loop walk-μ-loop
-walk-mul-left-2 t c = let x = picked-split _ _ _ (c .before .before .before .before .before .before .before .before .before .pick .result) _ (c .before .before .before .before .before .before .before .s2 .given .1) (c .before .before .before .before .before .before .before .before .before .pick .ensures) in omega (arith, x .due .there, c .before .before .before .before .before .before .before .before .before .before .before .before .before .before .before .before .before .before .before .before .before .before .before .before .pre .1 .0 .slots)
+walk-mul-left-2 t c = let x = picked-split _ _ _ (c .before .before .before .before .before .before .before .before .before .before .pick .result) _ (c .before .before .before .before .before .before .before .before .s2 .given .1) (c .before .before .before .before .before .before .before .before .before .before .pick .ensures) in omega (arith, x .due .there, c .before .before .before .before .before .before .before .before .before .before .before .before .before .before .before .before .before .before .before .before .before .before .before .before .before .pre .1 .0 .slots)
 
 walk-array-write-left-2 : (t : ℕ) → walk-lts.Need-array-write-left-2 (claims t) (walk-at t) walk.Post walk-Inv-loop walk-μ-loop
-walk-array-write-left-2 t c = let x = picked-split _ _ _ (c .before .before .before .before .before .before .before .before .before .pick .result) _ (c .before .before .before .before .before .before .before .s2 .given .1) (c .before .before .before .before .before .before .before .before .before .pick .ensures) in omega (arith, x .due .there, c .before .before .before .before .before .before .before .before .before .before .before .before .before .before .before .before .before .before .before .before .before .before .before .before .pre .1 .0 .slots)
+walk-array-write-left-2 t c = let x = picked-split _ _ _ (c .before .before .before .before .before .before .before .before .before .before .pick .result) _ (c .before .before .before .before .before .before .before .before .s2 .given .1) (c .before .before .before .before .before .before .before .before .before .before .pick .ensures) in omega (arith, x .due .there, c .before .before .before .before .before .before .before .before .before .before .before .before .before .before .before .before .before .before .before .before .before .before .before .before .before .pre .1 .0 .slots)
 
 walk-loop-less-2 : (t : ℕ) → walk-lts.Need-loop-less-2 (claims t) (walk-at t) walk.Post walk-Inv-loop walk-μ-loop
 walk-loop-less-2 t c =
-    let x = picked-split _ _ _ (c .before .before .before .before .before .before .before .before .before .pick .result) _ (c .before .before .before .before .before .before .before .s2 .given .1) (c .before .before .before .before .before .before .before .before .before .pick .ensures) in
+    let x = picked-split _ _ _ (c .before .before .before .before .before .before .before .before .before .before .pick .result) _ (c .before .before .before .before .before .before .before .before .s2 .given .1) (c .before .before .before .before .before .before .before .before .before .before .pick .ensures) in
     let h = c .before .before .before .before .before .halve .ensures in
     let e = h .1 (some-choice _ _ _ _ x) in
-    let going = loop-narrowed _ _ _ _ _ _ _ _ _ _ _ (c .before .before .before .before .before .before .before .before .before .before .before .before .before .before .before .before .before .loop .inv) _ _ (c .before .before .before .before .before .before .before .before .before .before .before .before .before .narrow .ensures) in
-    let next = loop-split _ _ _ _ _ _ _ _ _ _ _ going _ (tabled-slotted (c .before .before .before .before .before .before .before .before .before .before .before .before .before .before .before .before .before .before .before .before .before .before .before .before .args .entries .now) (c .before .before .before .before .before .before .before .before .before .before .before .before .before .before .before .before .before .before .before .before .before .before .before .before .args .slots .now) (c .before .before .before .before .before .before .before .before .before .before .before .before .before .before .before .before .before .before .before .before .before .before .before .before .args .settings) (c .before .before .before .before .before .before .before .before .before .before .before .before .before .before .before .before .before .before .before .before .before .before .before .before .args .objectives .now) (c .before .before .before .before .before .before .before .before .before .before .before .before .before .before .before .before .before .before .before .before .before .before .before .before .args .fits .now)) _ (e .0) (x .due) (h .0) _ _ (e .1) _ _ (c .before .before .walk .kept .1 .1 .1 .1 .1 .1 .1 .1 .1 .1 .0) (c .before .before .walk .ensures) in
-    rw set-set (omega (arith, next .1, remaining-fewer (c .before .before .before .before .before .before .before .before .before .before .before .before .before .narrow .ensures .fewer)))
+    let going = loop-narrowed _ _ _ _ _ _ _ _ _ _ _ (c .before .before .before .before .before .before .before .before .before .before .before .before .before .before .before .before .before .before .loop .inv) _ _ (c .before .before .before .before .before .before .before .before .before .before .before .before .before .before .narrow .ensures) in
+    let next = loop-split _ _ _ _ _ _ _ _ _ _ _ going _ (tabled-slotted (c .before .before .before .before .before .before .before .before .before .before .before .before .before .before .before .before .before .before .before .before .before .before .before .before .before .args .entries .now) (c .before .before .before .before .before .before .before .before .before .before .before .before .before .before .before .before .before .before .before .before .before .before .before .before .before .args .slots .now) (c .before .before .before .before .before .before .before .before .before .before .before .before .before .before .before .before .before .before .before .before .before .before .before .before .before .args .settings) (c .before .before .before .before .before .before .before .before .before .before .before .before .before .before .before .before .before .before .before .before .before .before .before .before .before .args .objectives .now) (c .before .before .before .before .before .before .before .before .before .before .before .before .before .before .before .before .before .before .before .before .before .before .before .before .before .args .fits .now)) _ (e .0) (x .due) (h .0) _ _ (e .1) _ _ (c .before .before .walk .kept .1 .1 .1 .1 .1 .1 .1 .1 .1 .1 .1 .0) (c .before .before .walk .ensures) in
+    rw set-set (omega (arith, next .1, remaining-fewer (c .before .before .before .before .before .before .before .before .before .before .before .before .before .before .narrow .ensures .fewer)))
 
 walk-loop-again-2 : (t : ℕ) → walk-lts.Need-loop-again-2 (claims t) (walk-at t) walk.Post walk-Inv-loop walk-μ-loop
 walk-loop-again-2 t c =
-    let x = picked-split _ _ _ (c .before .before .before .before .before .before .before .before .before .pick .result) _ (c .before .before .before .before .before .before .before .s2 .given .1) (c .before .before .before .before .before .before .before .before .before .pick .ensures) in
+    let x = picked-split _ _ _ (c .before .before .before .before .before .before .before .before .before .before .pick .result) _ (c .before .before .before .before .before .before .before .before .s2 .given .1) (c .before .before .before .before .before .before .before .before .before .before .pick .ensures) in
     let h = c .before .before .before .before .before .halve .ensures in
     let e = h .1 (some-choice _ _ _ _ x) in
-    let going = loop-narrowed _ _ _ _ _ _ _ _ _ _ _ (c .before .before .before .before .before .before .before .before .before .before .before .before .before .before .before .before .before .loop .inv) _ _ (c .before .before .before .before .before .before .before .before .before .before .before .before .before .narrow .ensures) in
-    let next = loop-split _ _ _ _ _ _ _ _ _ _ _ going _ (tabled-slotted (c .before .before .before .before .before .before .before .before .before .before .before .before .before .before .before .before .before .before .before .before .before .before .before .before .args .entries .now) (c .before .before .before .before .before .before .before .before .before .before .before .before .before .before .before .before .before .before .before .before .before .before .before .before .args .slots .now) (c .before .before .before .before .before .before .before .before .before .before .before .before .before .before .before .before .before .before .before .before .before .before .before .before .args .settings) (c .before .before .before .before .before .before .before .before .before .before .before .before .before .before .before .before .before .before .before .before .before .before .before .before .args .objectives .now) (c .before .before .before .before .before .before .before .before .before .before .before .before .before .before .before .before .before .before .before .before .before .before .before .before .args .fits .now)) _ (e .0) (x .due) (h .0) _ _ (e .1) _ _ (c .before .before .walk .kept .1 .1 .1 .1 .1 .1 .1 .1 .1 .1 .0) (c .before .before .walk .ensures) in
+    let going = loop-narrowed _ _ _ _ _ _ _ _ _ _ _ (c .before .before .before .before .before .before .before .before .before .before .before .before .before .before .before .before .before .before .loop .inv) _ _ (c .before .before .before .before .before .before .before .before .before .before .before .before .before .before .narrow .ensures) in
+    let next = loop-split _ _ _ _ _ _ _ _ _ _ _ going _ (tabled-slotted (c .before .before .before .before .before .before .before .before .before .before .before .before .before .before .before .before .before .before .before .before .before .before .before .before .before .args .entries .now) (c .before .before .before .before .before .before .before .before .before .before .before .before .before .before .before .before .before .before .before .before .before .before .before .before .before .args .slots .now) (c .before .before .before .before .before .before .before .before .before .before .before .before .before .before .before .before .before .before .before .before .before .before .before .before .before .args .settings) (c .before .before .before .before .before .before .before .before .before .before .before .before .before .before .before .before .before .before .before .before .before .before .before .before .before .args .objectives .now) (c .before .before .before .before .before .before .before .before .before .before .before .before .before .before .before .before .before .before .before .before .before .before .before .before .before .args .fits .now)) _ (e .0) (x .due) (h .0) _ _ (e .1) _ _ (c .before .before .walk .kept .1 .1 .1 .1 .1 .1 .1 .1 .1 .1 .1 .0) (c .before .before .walk .ensures) in
     rw set-set (next .0)
 
 pub +walk-spec : {M : Type 1} → statement M
