@@ -14,6 +14,7 @@ use Rattle.price.specs.declared.packages.Known.{Known}
 use Rattle.price.specs.Prices.{Has, Serves, Drawn}
 use Rattle.price.specs.Worth.{Small}
 use Rattle.price.specs.Kinds.{OfOnePackage, Packaged, Raised}
+use Rattle.price.specs.Needed.{Closed}
 use Rattle.price.specs.Floor.{Moderate, Floors, Dear}
 use Rattle.price.proofs.Bounds.{price-le, raised-low}
 use Rattle.price.proofs.Drawing.{drawn-then}
@@ -39,17 +40,18 @@ pub credit-fits : (scale : Scale) (packages : ℕ) → Small scale → packages 
 credit-fits scale packages s h =
     let product = times-le 34628173888 (s .double) h refl in (product, omega (arith, product, s .count))
 
-pub laid : {alike base : List ℕ} {scale : Scale} {first : List ℕ} {must : ℕ} {choices raised between price : List ℕ} {known : Known} {fixed shared : ℕ} → Moderate base scale
-    → ((entries : List ℕ) → OfOnePackage entries alike → Packaged entries known) → known .packages ≤ 64 → Raised base (known .entries) (scale .double) raised
-    → Drawn (Has must) raised between fixed → Drawn (Serves first must choices) between price shared
-    → Floors alike base scale first must choices price (record { sum = fixed + shared; credit = scale .count + scale .double * known .packages })
-laid {base = base} {scale = scale} {raised = raised} {known = known} moderate packaged fits up one two =
-    let both = drawn-then one two in
+pub laid : {alike base : List ℕ} {scale : Scale} {first : List ℕ} {must : ℕ} {choices raised after-all after-slots price : List ℕ} {known : Known} {fixed shared beyond : ℕ}
+    → Moderate base scale → ((entries : List ℕ) → OfOnePackage entries alike → Packaged entries known) → known .packages ≤ 64
+    → Raised base (known .entries) (scale .double) raised → Drawn (Has must) raised after-all fixed → Drawn (Serves first must choices) after-all after-slots shared
+    → Drawn (Closed first must choices) after-slots price beyond
+    → Floors alike base scale first must choices price (record { sum = fixed + shared + beyond; credit = scale .count + scale .double * known .packages })
+laid {base = base} {scale = scale} {raised = raised} {known = known} moderate packaged fits up one two three =
+    let paid = drawn-then (drawn-then one two) three in
     let low = raised-low base raised (known .entries) (scale .double) (moderate .each) (moderate .small .double) up in
     record {
-      sum = omega (arith, both .whole, low .1);
+      sum = omega (arith, paid .whole, low .1);
       credit = credit-fits scale (known .packages) (moderate .small) fits .1;
-      sized = omega (arith, both .sized, up .sized);
+      sized = omega (arith, paid .sized, up .sized);
       below = λ entries objectives all fits settings alike scaled prices few set exist has serves.
-          omega (arith, both .fair set (has, λ e s h m. serves e s h (has e m)), price-le entries all settings objectives fits set few exist scale base scaled prices known (packaged entries alike) raised up);
+          omega (arith, paid .fair set ((has, λ e s h m. serves e s h (has e m)), (has, serves)), price-le entries all settings objectives fits set few exist scale base scaled prices known (packaged entries alike) raised up);
     }

@@ -5,4 +5,5 @@ pub mod Worth
 pub mod FirstMembers
 pub mod Filling
 pub mod Bounds
+pub mod Needed
 pub mod Grounds

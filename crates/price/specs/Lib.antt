@@ -3,3 +3,4 @@ pub mod Prices
 pub mod Worth
 pub mod Kinds
 pub mod Floor
+pub mod Needed

@@ -39,3 +39,7 @@ ServesSpan start end choices set = (s : ℕ) → start ≤ s → s < end → Mee
 -- a set has a choice of each slot that stands in the span of one of some owners
 abbrev pub Serves : List ℕ → ℕ → List ℕ → ℕ → Type 0
 Serves first owners choices set = (e s : ℕ) → e < 64 → Member owners e → getD first e 0 ≤ s → s < getD first (e + 1) 0 → Meets (getD choices s 0) set
+
+-- every set with all of must that has a choice of each slot of its members meets n
+abbrev pub Needs : List ℕ → ℕ → List ℕ → ℕ → Type 0
+Needs first must choices n = (set : ℕ) → Has must set → Serves first set choices set → Meets n set

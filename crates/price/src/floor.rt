@@ -2,6 +2,7 @@
 use crate::Scale;
 use crate::draw::pay_all;
 use crate::draw::pay_slots;
+use crate::needs::pay_needs;
 use crate::packages::packages_of;
 use crate::packages::raised;
 ghost use mathlib.Core.Path.{_≡_};
@@ -35,8 +36,9 @@ pub fn lay(
     *price = raised(base, known.entries, scale.double);
     let fixed = pay_all(price, must);
     let shared = pay_slots(price, first, must, choices);
+    let beyond = pay_needs(price, alike, first, must, choices);
     Ground {
-        sum: fixed + shared,
+        sum: fixed + shared + beyond,
         credit: scale.count + scale.double * known.packages,
     }
 }

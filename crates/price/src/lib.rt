@@ -2,6 +2,7 @@
 // node asks for, so that the sum of it and what is left bound a plan's cost from below.
 pub mod draw;
 pub mod floor;
+pub mod needs;
 pub mod packages;
 pub mod worths;
 
