@@ -141,7 +141,7 @@ def machine():
     models = [line.split(':')[1].strip() for line in pathlib.Path('/proc/cpuinfo').read_text().splitlines() if line.startswith('model name')]
     memory = os.sysconf('SC_PAGE_SIZE') * os.sysconf('SC_PHYS_PAGES') / 2 ** 30
     return dict(of='machine', processor=models[0] if models else platform.machine(), cores=os.cpu_count(), memory=memory,
-                system=platform.freedesktop_os_release()['PRETTY_NAME'], kernel=platform.release(), peers=peers.versions())
+                system=platform.freedesktop_os_release()['PRETTY_NAME'], peers=peers.versions())
 
 
 def main(seeds, folder):

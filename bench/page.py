@@ -109,8 +109,8 @@ def opening(times):
 
 def machine(times):
     m = times.machine
-    return prose('Machine: %s, %d cores, %.0f GiB of memory, %s, Linux %s%s.' % (
-        m['processor'], m['cores'], m['memory'], m['system'], m['kernel'], ''.join('; ' + version for version in m['peers'].values()))) + ['']
+    return prose('Machine: %s, %d cores, %.0f GiB of memory, %s%s.' % (
+        m['processor'], m['cores'], m['memory'], m['system'], ''.join('; ' + version for version in m['peers'].values()))) + ['']
 
 
 def targets(times):

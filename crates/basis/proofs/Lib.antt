@@ -1,3 +1,4 @@
+-- The laws that every crate shares: of answers and tests, lists, rows and sums.
 pub mod Answers
 pub mod Decide
 pub mod Lists

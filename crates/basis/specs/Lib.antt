@@ -1,3 +1,4 @@
+-- What every crate shares: byte strings, lists, rows of refusals, sums and tests.
 pub mod Bytes
 pub mod Lists
 pub mod Rows

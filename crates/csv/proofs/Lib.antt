@@ -1,3 +1,4 @@
+-- The laws of the text: that it is laid out in one way at most, and what the readers of its parts go by.
 pub mod Unique
 pub mod Decided
 pub mod Outcome

@@ -1,3 +1,4 @@
+-- The layout of the text, what a text says, and what reading one may answer.
 pub mod Layout
 pub mod Says
 pub mod Reading

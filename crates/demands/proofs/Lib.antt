@@ -1,3 +1,4 @@
+-- The theorems of the demands, and what they are made of.
 pub mod Tested
 pub mod Readings
 pub mod Lines

@@ -1,3 +1,4 @@
+-- The demands, and what else is claimed of all the calls together.
 pub mod Claims
 pub mod Bench
 pub mod Excluded

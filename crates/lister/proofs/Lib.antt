@@ -1,3 +1,4 @@
+-- The laws of asking and turning, and that each call has one outcome.
 pub mod Asked
 pub mod Asks
 pub mod Outcome

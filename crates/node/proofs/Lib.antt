@@ -1,3 +1,4 @@
+-- The laws of the steps of narrowing: why none of them loses a plan that is sought.
 pub mod Affording
 pub mod Arrows
 pub mod Banning

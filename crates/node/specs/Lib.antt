@@ -1,3 +1,4 @@
+-- What is sought at a node, what narrowing promises, and what each of its steps gives.
 pub mod Arrows
 pub mod Banning
 pub mod Clashing

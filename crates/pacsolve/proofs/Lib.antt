@@ -1,3 +1,4 @@
+-- The laws of plans: their conditions, their order, and that the listing exists and is one.
 pub mod Order
 pub mod Fixed
 pub mod Listing

@@ -1,3 +1,4 @@
+-- The laws of the output: how it comes to stand in the buffer, and that it is one.
 pub mod Adding
 pub mod Records
 pub mod Telling

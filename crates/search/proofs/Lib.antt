@@ -1,3 +1,4 @@
+-- The laws of the walk and of its rounds.
 pub mod Choosing
 pub mod Complete
 pub mod Copying

@@ -1,3 +1,4 @@
+-- `constraint::number::longest` meets its contract.
 use borrow.Author.Needs.{needs}
 use Prim.Native.Nat.{_-_}
 use native.Mathlib.Omega.{arith}
