@@ -8,6 +8,8 @@ pub mod proved;
 mod tally;
 
 use std::fmt::Debug;
+use std::panic::resume_unwind;
+use std::thread;
 
 use cases::{Inputs, Lent, LentText};
 use second::{LIMIT, Plan, PlanAnswer, Record, Version, combinations};
@@ -28,6 +30,20 @@ pub fn compare(inputs: &Inputs, tally: &mut Tally) -> Result<(), String> {
         Inputs::Plans(lent) => plans(lent, tally),
         Inputs::Read(lent) => read(lent, tally),
     }
+}
+
+/// What `run` gives on each of so many threads, which run at once. A panic of one is handed on.
+pub fn on_threads<T: Send>(threads: u64, run: impl Fn(u64) -> T + Sync) -> Vec<T> {
+    let run = &run;
+    thread::scope(|scope| {
+        let started: Vec<_> = (0..threads)
+            .map(|number| scope.spawn(move || run(number)))
+            .collect();
+        let joined = started.into_iter().map(|thread| thread.join());
+        joined
+            .map(|result| result.unwrap_or_else(|panic| resume_unwind(panic)))
+            .collect()
+    })
 }
 
 /// For each slot the entries that fit it, as the second program reads its constraint.

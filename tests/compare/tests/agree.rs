@@ -3,11 +3,8 @@
 //!
 //! This runs without the test harness, so that what was compared is always printed.
 
-use std::panic::resume_unwind;
-use std::thread;
-
 use cases::{Case, Kind, OBJECTIVES, case, shrink};
-use compare::{Tally, compare};
+use compare::{Tally, compare, on_threads};
 
 /// How many seeds of each kind are gone through.
 const SEEDS: [(Kind, u64); 14] = [
@@ -45,17 +42,9 @@ const NUMBERS: [(&str, &[u8]); 6] = [
 
 fn main() {
     let mut tally = Tally::default();
-    thread::scope(|scope| {
-        let threads: Vec<_> = (0..THREADS)
-            .map(|thread| scope.spawn(move || run(thread)))
-            .collect();
-        for thread in threads {
-            match thread.join() {
-                Ok(counted) => tally.add(counted),
-                Err(panic) => resume_unwind(panic),
-            }
-        }
-    });
+    for counted in on_threads(THREADS, run) {
+        tally.add(counted);
+    }
     println!("{tally}");
     assert_reached(&tally);
 }

@@ -7,12 +7,10 @@
 //! gringo or clasp is not installed and nothing was.
 
 use std::io::Write;
-use std::panic::resume_unwind;
 use std::process::{Command, Stdio};
-use std::thread;
 
 use cases::{Lent, Random, SETTINGS, WEAVES, Width, numbered_settings, wide, woven};
-use compare::{fitting, proved};
+use compare::{fitting, on_threads, proved};
 use second::{Cost, LIMIT, combinations};
 
 /// The programs that this needs.
@@ -20,7 +18,7 @@ const PROGRAMS: [&str; 2] = ["gringo", "clasp"];
 /// The seconds that clasp may take for a catalogue.
 const SECONDS: u64 = 2;
 /// Of a hundred catalogues clasp must end so many in time.
-const ENDED: u64 = 95;
+const ENDED: u64 = 50;
 /// How many threads share the catalogues.
 const THREADS: u64 = 2;
 /// How often all settings are gone through for each width and each weave.
@@ -87,17 +85,9 @@ fn main() {
         return;
     }
     let mut counts = Counts::default();
-    thread::scope(|scope| {
-        let threads: Vec<_> = (0..THREADS)
-            .map(|thread| scope.spawn(move || run(thread)))
-            .collect();
-        for thread in threads {
-            match thread.join() {
-                Ok(counted) => counts.add(counted),
-                Err(panic) => resume_unwind(panic),
-            }
-        }
-    });
+    for counted in on_threads(THREADS, run) {
+        counts.add(counted);
+    }
     let Counts {
         plans,
         none,
