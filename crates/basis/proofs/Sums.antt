@@ -31,9 +31,6 @@ sum-changed f g (suc n) e x l more others = go (below-suc l) (λ h. sum-changed 
     go (inl h) rest = omega (arith, rw h at more, sum-same f g n (λ d k. others d (omega arith)))
     go (inr h) rest = omega (arith, rest h, others n (omega arith))
 
-pub sum-more : (f g : ℕ → ℕ) (n e : ℕ) → e < n → f e ≡ suc (g e) → ((d : ℕ) → ¬ (d ≡ e) → f d ≡ g d) → sum f n ≡ suc (sum g n)
-sum-more f g n e l more others = omega (arith, sum-changed f g n e 1 l (omega (arith, more)) others)
-
 -- each term is at most the sum
 pub term-le : (f : ℕ → ℕ) (n e : ℕ) → e < n → f e ≤ sum f n
 term-le f zero e h = absurd (not-suc-le-zero h)

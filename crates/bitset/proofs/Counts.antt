@@ -10,9 +10,8 @@ use lib.Count.{ones, ones-step}
 use lib.Pow.{pow-mono}
 use Rattle.basis.specs.Sum.{sum}
 use Rattle.bitset.specs.Bits.{bit, Member, count}
-use Rattle.bitset.proofs.Made.{bit-added, bit-kept}
 use Rattle.bitset.proofs.Sets.{bit-cases, bit-of-none, bit-first, bit-next}
-use Rattle.basis.proofs.Sums.{sum-first, sum-same, sum-bound, sum-more, sum-mono, sum-less}
+use Rattle.basis.proofs.Sums.{sum-first, sum-same, sum-bound, sum-mono, sum-less}
 
 -- the sum of the bits below n of a set below 2 ^ n is the number of its ones
 pub sum-ones : (n set : ℕ) → set < 2 ^ n → sum (λ e. bit set e) n ≡ ones set
@@ -36,17 +35,6 @@ count-below n set l h = count-ones set (lt-of-lt-of-le h (pow-mono l)) ∙ sym (
 pub count-le : (set : ℕ) → count set ≤ 64
 unfolding count
 count-le set = sum-bound (λ e. bit set e) 64 1 (λ e. omega arith)
-
--- the empty set counts 0
-pub count-empty : count 0 ≡ 0
-count-empty = count-below 0 0 (omega arith) (omega arith)
-
--- a set with one member more counts one more
-pub count-more : (set e : ℕ) → e < 64 → ¬ Member set e → count (set + 2 ^ e) ≡ suc (count set)
-unfolding count
-count-more set e l n =
-    let clear : bit set e ≡ 0 = bit-of-none set e n in
-    sum-more (λ d. bit (set + 2 ^ e) d) (λ d. bit set d) 64 e l (bit-added set e clear ∙ ap suc (sym clear)) (λ d f. bit-kept set e d clear f)
 
 -- bit by bit, a set within another is no larger
 bit-within : (a b e : ℕ) → (Member a e → Member b e) → bit a e ≤ bit b e

@@ -3,20 +3,10 @@ use mathlib.Core.Path.{_≡_, sym, _∙_}
 use mathlib.Core.Logic.{_⊎_, inl, inr}
 use Prim.Native.Nat.{ℕ, zero, suc, _/_, _%_, _^_, _<_}
 use native.Mathlib.Nat.{pow-succ', not-suc-le-zero}
-use native.Mathlib.Decide.{decLt}
 use native.Mathlib.Omega.{arith}
 use lib.Count.{trailingZeros}
 use Rattle.bitset.specs.Bits.{Member, Lowest}
 use Rattle.bitset.proofs.Sets.{digit-cases, bit-first, bit-next}
-
--- a set has at most one lowest member
-pub lowest-one : {set d e : ℕ} → Lowest set d → Lowest set e → d ≡ e
-lowest-one {set} {d} {e} a b = go (decLt d e) (decLt e d)
-  where
-    go : Dec (d < e) → Dec (e < d) → d ≡ e
-    go (yes l) y = absurd (b .least d l (a .member))
-    go (no f) (yes l) = absurd (a .least e l (b .member))
-    go (no f) (no g) = omega arith
 
 -- the lowest member of an even set is one above that of its half
 lowest-even : (set e : ℕ) → set % 2 ≡ 0 → Lowest (set / 2) e → Lowest set (suc e)
@@ -35,3 +25,11 @@ lowest-trailing (suc k) set h n = go (lowest-trailing k (set / 2) (omega (arith,
     go : (¬ (set / 2 ≡ 0) → Lowest (set / 2) (trailingZeros k (set / 2))) → (set % 2 ≡ 0) ⊎ (set % 2 ≡ 1) → Lowest set (trailingZeros (suc k) set)
     go half (inl even) = rw even (lowest-even set (trailingZeros k (set / 2)) even (half (λ z. n (omega arith))))
     go half (inr odd) = rw odd (record { member = bit-first set ∙ odd; least = λ d l. absurd (not-suc-le-zero l) })
+
+below-its-power : (n : ℕ) → n < 2 ^ n
+below-its-power zero = omega arith
+below-its-power (suc n) = omega (arith, below-its-power n, pow-succ' 2 n)
+
+-- so a set that is not empty has a member
+pub some-member : (set : ℕ) → ¬ (set ≡ 0) → (e : ℕ) × Member set e
+some-member set n = (trailingZeros set set, lowest-trailing set set (below-its-power set) n .member)

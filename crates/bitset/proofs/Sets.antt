@@ -1,7 +1,7 @@
 -- A set is fixed by its members. A number below 2 ^ n has its members below n, and the other way round; and every test of numbers has the number whose
 -- members below n are those that pass it. Each law goes by a number's binary digits, lowest first: bit 0 is the remainder by 2, and bit e + 1 is bit e of
 -- the half.
-use mathlib.Core.Path.{_≡_, refl, sym, ap, _∙_}
+use mathlib.Core.Path.{_≡_, refl, sym, ap, _∙_, subst}
 use mathlib.Core.Bool.{Bool, true, false}
 use mathlib.Core.Logic.{_⊎_, inl, inr}
 use Prim.Native.Nat.{ℕ, zero, suc, _+_, _*_, _/_, _%_, _^_, _≤_, _<_}
@@ -47,6 +47,10 @@ bit-next set e = ap (λ (n : ℕ). n % 2) (ap (λ (n : ℕ). set / n) (pow-succ'
 -- the empty set has no member
 pub none-in-empty : (e : ℕ) → ¬ Member 0 e
 none-in-empty e m = omega (arith, zero-div (2 ^ e))
+
+-- a set with a member is not empty
+pub not-empty : (set e : ℕ) → Member set e → ¬ (set ≡ 0)
+not-empty set e m z = none-in-empty e (subst (λ (r : ℕ). Member r e) z m)
 
 -- a set with no member is empty
 pub empty-by-members : (set : ℕ) → ((e : ℕ) → ¬ Member set e) → set ≡ 0

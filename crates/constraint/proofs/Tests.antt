@@ -7,8 +7,7 @@ use lib.Dec.{eqb, ltb, leb}
 use Rattle.basis.specs.Tests.{Decides}
 use Rattle.basis.proofs.Decide.{decides-by, decides-unit, decides-and, decides-or, decides-if, decides-eq, decides-lt, decides-le}
 use Rattle.constraint.specs.declared.Version.{Version}
-use Rattle.constraint.specs.Meaning.{Bound, equal, at-most, at-least, caret, Constraint, any, bound, both, either, Satisfies}
-use Rattle.constraint.specs.Meaning.{Same, Below, by-major, by-minor, by-patch, AtMost, Caret, Meets}
+use Rattle.constraint.specs.Meaning.{Bound, equal, at-most, at-least, caret, Constraint, any, bound, both, either, Satisfies, Same, Below, by-major, by-minor, by-patch, AtMost, Caret, Meets}
 
 -- v and w are the same version
 abbrev pub is-same : Version → Version → Bool

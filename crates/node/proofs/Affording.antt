@@ -4,11 +4,11 @@ use mathlib.Core.List.{List}
 use Prim.Native.Nat.{ℕ, _+_}
 use native.Mathlib.Omega.{arith}
 use Rattle.bitset.specs.Bits.{Member}
-use Rattle.catalogue.proofs.Spanned.{span-owner}
 use Rattle.pacsolve.specs.Problem.{Problem}
 use Rattle.pacsolve.specs.Plan.{Plan, chosen, MemberOf}
 use Rattle.catalogue.specs.declared.Settings.{Settings}
 use Rattle.catalogue.specs.Survey.{tabled}
+use Rattle.catalogue.proofs.Spanned.{span-owner}
 use Rattle.price.specs.declared.Scale.{Scale}
 use Rattle.price.specs.declared.floor.Ground.{Ground}
 use Rattle.price.specs.Prices.{Serves}

@@ -9,12 +9,12 @@ use lib.ListN.{length, getD, set, replicate, length-set, length-replicate}
 use Rattle.bitset.specs.Bits.{Member}
 use Rattle.bitset.specs.Changes.{With}
 use Rattle.bitset.proofs.Sets.{member-or-not, none-in-empty}
-use Rattle.catalogue.specs.Spans.{Spans}
-use Rattle.catalogue.proofs.Spanned.{span-owner}
 use Rattle.pacsolve.specs.Problem.{Problem}
 use Rattle.pacsolve.specs.Plan.{Plan, chosen, MemberOf, Step, here, on}
 use Rattle.pacsolve.specs.Listing.{Good}
 use Rattle.pacsolve.proofs.Walks.{Trail, walk-on}
+use Rattle.catalogue.specs.Spans.{Spans}
+use Rattle.catalogue.proofs.Spanned.{span-owner}
 use Rattle.plan.specs.Closure.{Holds, Passes}
 use Rattle.plan.proofs.Closing.{stored-here, stored-elsewhere}
 use Rattle.plan.proofs.Reaching.{walk-member}

@@ -9,6 +9,7 @@ use lib.Bits.{bitAnd, bitOr}
 use lib.Dec.{eqb}
 use lib.ListN.{length, getD}
 use Rattle.bitset.specs.Bits.{Member}
+use Rattle.bitset.proofs.Least.{some-member}
 use Rattle.bitset.proofs.Made.{meet-members, join-members}
 use Rattle.bitset.proofs.Sets.{none-in-empty}
 use Rattle.pacsolve.specs.Problem.{Problem}
@@ -18,7 +19,6 @@ use Rattle.node.specs.declared.Node.{Node}
 use Rattle.node.specs.Banning.{Bans}
 use Rattle.node.specs.Sought.{Inside}
 use Rattle.node.specs.Steps.{Settled}
-use Rattle.node.proofs.Few.{some-member}
 
 -- the bans joined
 pub joined-bans : (must ban out : ℕ) (alive : Bool)

@@ -1,34 +1,20 @@
 -- Sets of few members: what taking members out of a set leaves, and what an answer tells of the set.
-use mathlib.Core.Path.{_≡_, refl, subst}
-use Prim.Native.Nat.{ℕ, zero, suc, _-_, _^_, _≤_, _<_}
-use native.Mathlib.Nat.{pow-succ'}
+use mathlib.Core.Path.{_≡_, refl}
+use Prim.Native.Nat.{ℕ, _-_, _^_, _≤_, _<_}
 use native.Mathlib.Decide.{ℕ-discrete}
 use native.Mathlib.Omega.{arith}
 use lib.Bits.{bitAnd}
-use lib.Count.{trailingZeros}
 use Rattle.bitset.specs.Bits.{Member}
 use Rattle.bitset.specs.Changes.{Without}
 use Rattle.bitset.specs.Search.{LowestOr64}
-use Rattle.bitset.proofs.Least.{lowest-trailing}
+use Rattle.bitset.proofs.Least.{some-member}
 use Rattle.bitset.proofs.Made.{meet-members, rest-members}
-use Rattle.bitset.proofs.Sets.{member-below, none-in-empty}
+use Rattle.bitset.proofs.Sets.{member-below, not-empty}
 use Rattle.node.specs.declared.holds.Held.{Held}
 use Rattle.node.specs.declared.holds.Held.the-variants.{Nothing, One, Several}
 use Rattle.node.specs.Steps.{Only}
 use Rattle.node.specs.Members.{Holds, nothing, one, several}
 use Rattle.node.specs.Settling.{Less}
-
-below-its-power : (n : ℕ) → n < 2 ^ n
-below-its-power zero = omega arith
-below-its-power (suc n) = omega (arith, below-its-power n, pow-succ' 2 n)
-
--- a set that is not empty has a member
-pub some-member : (set : ℕ) → ¬ (set ≡ 0) → (e : ℕ) × Member set e
-some-member set n = (trailingZeros set set, lowest-trailing set set (below-its-power set) n .member)
-
--- a set with a member is not empty
-pub not-empty : (set e : ℕ) → Member set e → ¬ (set ≡ 0)
-not-empty set e m z = none-in-empty e (subst (λ (r : ℕ). Member r e) z m)
 
 module _ (set e rest : ℕ) (h : set < 2 ^ 64) (m : Member set e) (out : Without set e rest) where
   below : e < 64

@@ -16,17 +16,16 @@ use Rattle.bitset.specs.Bits.{bit, Member, count}
 use Rattle.bitset.specs.Changes.{With, Without}
 use Rattle.bitset.proofs.Counts.{count-less}
 use Rattle.bitset.proofs.Made.{meet-members, rest-members}
-use Rattle.bitset.proofs.Sets.{below-by-members, empty-by-members, bit-at, member-below, member-or-not, none-in-empty}
-use Rattle.catalogue.specs.Spans.{Spans}
-use Rattle.catalogue.proofs.Spanned.{span-owner}
+use Rattle.bitset.proofs.Sets.{below-by-members, empty-by-members, bit-at, member-below, member-or-not, none-in-empty, not-empty}
 use Rattle.pacsolve.specs.Problem.{Problem}
 use Rattle.pacsolve.specs.Plan.{Plan, chosen, MemberOf, Step}
 use Rattle.pacsolve.specs.Listing.{Good}
 use Rattle.pacsolve.proofs.Descent.{none-onward}
+use Rattle.catalogue.specs.Spans.{Spans}
+use Rattle.catalogue.proofs.Spanned.{span-owner}
 use Rattle.node.specs.Grounding.{Apart, HasSlot, HeldUp, Risen, Hangs}
 use Rattle.node.specs.Sought.{Inside}
 use Rattle.node.proofs.Slotted.{Slotted}
-use Rattle.node.proofs.Few.{not-empty}
 
 -- nothing in common with the ground
 pub apart-decides : (choices ground : ℕ) → choices < 2 ^ 64 → {b : Bool} → Decides b (bitAnd choices ground ≡ 0) → Decides b (Apart choices ground)

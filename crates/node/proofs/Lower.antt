@@ -11,7 +11,7 @@ use lib.ListN.{length, getD, take}
 use lib.Seq.{getD-take, length-take-le}
 use Rattle.bitset.specs.Bits.{Member}
 use Rattle.bitset.specs.Search.{LowestOr64}
-use Rattle.bitset.proofs.Sets.{member-or-not}
+use Rattle.bitset.proofs.Sets.{member-or-not, not-empty}
 use Rattle.pacsolve.specs.Problem.{Problem}
 use Rattle.pacsolve.specs.Plan.{Plan, plan, none, chosen, MemberOf}
 use Rattle.pacsolve.specs.Cost.{cost}
@@ -26,7 +26,6 @@ use Rattle.node.specs.declared.Node.{Node}
 use Rattle.node.specs.Facts.{LowTable, Ceils}
 use Rattle.node.specs.Sought.{Inside, Costed}
 use Rattle.node.proofs.Slotted.{Slotted}
-use Rattle.node.proofs.Few.{not-empty}
 
 -- the lowest member is no higher than another
 pub lowest-low : {set r : ℕ} → LowestOr64 set r → (e : ℕ) → Member set e → r ≤ e

@@ -13,16 +13,15 @@ use Rattle.bitset.specs.Changes.{With}
 use Rattle.bitset.specs.Search.{LowestOr64}
 use Rattle.bitset.proofs.Counts.{count-le, count-less}
 use Rattle.bitset.proofs.Made.{meet-members, join-members, rest-members}
-use Rattle.bitset.proofs.Sets.{member-below, member-or-not, none-in-empty}
-use Rattle.catalogue.specs.Spans.{Spans, ownerIn}
-use Rattle.catalogue.proofs.Spanned.{span-of}
+use Rattle.bitset.proofs.Sets.{member-below, member-or-not, none-in-empty, not-empty}
 use Rattle.pacsolve.specs.Problem.{Problem}
 use Rattle.pacsolve.specs.Plan.{Plan, MemberOf, Walk, here, on}
 use Rattle.pacsolve.specs.Listing.{Good}
+use Rattle.catalogue.specs.Spans.{Spans, ownerIn}
+use Rattle.catalogue.proofs.Spanned.{span-of}
 use Rattle.node.specs.Reaching.{InReach, at-once, onward, Closed, Taken, OutOfReach}
 use Rattle.node.specs.Sought.{Inside}
 use Rattle.node.proofs.Slotted.{Slotted}
-use Rattle.node.proofs.Few.{not-empty}
 use Rattle.node.proofs.Settling.{with-only}
 
 -- the slots of a span, one after the other

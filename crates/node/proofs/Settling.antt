@@ -10,6 +10,8 @@ use lib.Bits.{bitAnd}
 use lib.ListN.{length, getD, set, length-set}
 use Rattle.bitset.specs.Bits.{Member}
 use Rattle.bitset.specs.Changes.{With}
+use Rattle.bitset.proofs.Sets.{not-empty}
+use Rattle.bitset.proofs.Least.{some-member}
 use Rattle.bitset.proofs.Made.{meet-members}
 use Rattle.pacsolve.specs.Problem.{Problem}
 use Rattle.pacsolve.specs.Plan.{Plan, chosen}
@@ -20,7 +22,6 @@ use Rattle.node.specs.declared.settle.Narrowed.{Narrowed}
 use Rattle.node.specs.Sought.{Inside}
 use Rattle.node.specs.Steps.{Only, Settled}
 use Rattle.node.specs.Settling.{Less, SlotInside, SlotSettled, Filled, InsideBy, SettledBy}
-use Rattle.node.proofs.Few.{some-member, not-empty}
 use Rattle.node.proofs.Stores.{stored-fewer, stored-keeps}
 
 abbrev node-of : ℕ → ℕ → Bool → Node

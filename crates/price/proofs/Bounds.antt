@@ -12,11 +12,11 @@ use Rattle.basis.proofs.Sums.{sum-same, sum-mono}
 use Rattle.bitset.specs.Bits.{bit, Member, count}
 use Rattle.bitset.proofs.Counts.{count-below}
 use Rattle.bitset.proofs.Sets.{bit-cases, bit-of-none, below-by-members}
-use Rattle.catalogue.specs.declared.Settings.{Settings}
-use Rattle.catalogue.specs.Survey.{tabled}
 use Rattle.pacsolve.specs.Problem.{Problem}
 use Rattle.pacsolve.specs.Cost.{weightOf, duplicatesOf, amount, cost}
 use Rattle.pacsolve.proofs.Duplicates.{some?, duplicates-repeated}
+use Rattle.catalogue.specs.declared.Settings.{Settings}
+use Rattle.catalogue.specs.Survey.{tabled}
 use Rattle.plan.proofs.Totals.{sum-further, over-bound}
 use Rattle.price.specs.declared.Scale.{Scale}
 use Rattle.price.specs.declared.packages.Known.{Known}

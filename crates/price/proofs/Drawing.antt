@@ -6,7 +6,6 @@ use Prim.Native.Nat.{ℕ, _+_, _-_, _*_, _^_, _≤_, _<_}
 use native.Mathlib.Nat.{one-mul, zero-mul}
 use native.Mathlib.Decide.{ℕ-discrete}
 use native.Mathlib.Omega.{arith}
-use lib.Count.{trailingZeros}
 use lib.ListN.{length, getD, set, length-set}
 use lib.Seq.{getD-set-same, getD-set-other}
 use Rattle.basis.specs.Sum.{sum}
@@ -15,7 +14,6 @@ use Rattle.bitset.specs.Bits.{bit, Member}
 use Rattle.bitset.specs.Changes.{Without}
 use Rattle.bitset.specs.Search.{LowestOr64}
 use Rattle.bitset.proofs.Sets.{member-or-not, member-below, none-in-empty, bit-of-none}
-use Rattle.bitset.proofs.Least.{lowest-trailing}
 use Rattle.bitset.proofs.Made.{rest-members}
 use Rattle.plan.proofs.MemberWalk.{Walked, walk-start, walk-on, walk-left}
 use Rattle.price.specs.Prices.{priceOf, everything, Meets, Has, Drawn, Low}
@@ -60,10 +58,6 @@ module _ (price : List ℕ) (d v x : ℕ) (small : d < 64) (there : d < length p
 -- everything has each number below 64
 pub in-everything : (e : ℕ) → e < 64 → Member everything e
 in-everything e h = rest-members 64 0 e (omega arith) .1 (h, none-in-empty e)
-
--- a 64-bit set that is not empty has a member
-pub some-of : (set : ℕ) → set < 2 ^ 64 → ¬ (set ≡ 0) → (e : ℕ) × Member set e
-some-of set h n = (trailingZeros 64 set, lowest-trailing 64 set h n .member)
 
 -- a member's price is at most what the set costs
 pub member-price : (price : List ℕ) (S e : ℕ) → e < 64 → Member S e → getD price e 0 ≤ priceOf price S

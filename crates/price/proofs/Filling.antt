@@ -58,10 +58,6 @@ named-more known e its r a b =
       more = omega (arith, b);
     }
 
--- nothing more
-pub named-same : (known : Known) (e its : ℕ) → WithPackage known e its known
-named-same known e its = record { few = λ entries alike S h. h; more = omega arith }
-
 -- the packages of the members passed
 pub record Naming (set : ℕ) (alike : List ℕ) (found : Known) (rest : ℕ) : Type 0 where
   pub walked : Walked set rest (λ e. Unit {0})

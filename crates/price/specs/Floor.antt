@@ -5,9 +5,9 @@ use mathlib.Core.List.{List}
 use Prim.Native.Nat.{ℕ, _+_, _/_, _^_, _≤_, _<_}
 use lib.ListN.{length, getD}
 use Rattle.bitset.specs.Bits.{Member}
+use Rattle.pacsolve.specs.Cost.{cost}
 use Rattle.catalogue.specs.declared.Settings.{Settings}
 use Rattle.catalogue.specs.Survey.{tabled}
-use Rattle.pacsolve.specs.Cost.{cost}
 use Rattle.price.specs.declared.Scale.{Scale}
 use Rattle.price.specs.declared.floor.Ground.{Ground}
 use Rattle.price.specs.Prices.{priceOf, Has, Serves}

@@ -31,8 +31,7 @@ use Rattle.csv.proofs.Unique.{one-sheet}
 use Rattle.report.specs.declared.plans.Shown.{Shown}
 use Rattle.report.specs.declared.plans.Step.{Step}
 use Rattle.report.specs.declared.plans.Step.the-variants.{On, Ended}
-use Rattle.report.specs.Output.{members, plansFrom, shown, settings, lentBy, firstRows, refusing, Prints, Printed}
-use Rattle.report.specs.Output.{refused as print-refused, listed as print-listed}
+use Rattle.report.specs.Output.{members, plansFrom, shown, settings, lentBy, firstRows, refusing, Prints, Printed, refused as print-refused, listed as print-listed}
 use Rattle.report.specs.Adding.{Adds}
 use Rattle.report.specs.Telling.{Tellable, AllTold, Catalogued, Showing, Unfinished, Carries, Advances, on, ended, FirstKnown, AllShown, Showable}
 use Rattle.report.proofs.Adding.{adds-both, adds-length}

@@ -8,9 +8,8 @@ use Rattle.bitset.specs.Bits.{Member, count}
 use Rattle.bitset.specs.Changes.{Without}
 use Rattle.bitset.specs.Search.{LowestOr64}
 use Rattle.bitset.proofs.Made.{meet-members}
-use Rattle.bitset.proofs.Sets.{member-below, below-by-members}
+use Rattle.bitset.proofs.Sets.{member-below, below-by-members, not-empty}
 use Rattle.plan.proofs.MemberWalk.{walk-start, walk-less}
-use Rattle.node.proofs.Few.{not-empty}
 
 pub record Choosing (all best rest : ℕ) : Type 0 where
   pub fits : all < 2 ^ 64

@@ -24,9 +24,8 @@ use Rattle.node.specs.Order.{AheadIf, Sooner}
 use Rattle.node.specs.Narrowing.{Ready}
 use Rattle.node.proofs.Slotted.{Slotted}
 use Rattle.node.proofs.Preceding.{ahead-precedes}
-use Rattle.search.specs.Walks.{Searched}
+use Rattle.search.specs.Walks.{Searched, Walked}
 use Rattle.search.specs.Picks.{Settles, Tabled}
-use Rattle.search.specs.Walks.{Walked}
 use Rattle.search.proofs.Complete.{searched-kept, searched-none}
 
 -- a plan is asked for, and lies below the limit, where its cost and table are ahead as they must be

@@ -1,16 +1,14 @@
 -- Rounds of the search: a plan that a round finds is the least of all, and where the last round finds none there is none, since its bound is above every cost.
-use mathlib.Core.Path.{_≡_, refl, sym, ap, _∙_}
+use mathlib.Core.Path.{_≡_, refl, sym, _∙_}
 use mathlib.Core.Bool.{true, false, true≢false}
 use mathlib.Core.List.{List}
 use mathlib.Core.Logic.{_⊎_, inl, inr}
-use Prim.Native.Nat.{ℕ, zero, suc, _+_, _-_, _*_, _≤_, _<_, _^_}
+use Prim.Native.Nat.{ℕ, zero, suc, _+_, _-_, _*_, _≤_, _<_}
 use native.Mathlib.Omega.{arith}
 use native.Mathlib.Nat.{mul-le-mul-right}
 use lib.ListN.{getD}
 use Rattle.basis.proofs.Sums.{sum-mono}
 use Rattle.bitset.specs.Bits.{bit}
-use Rattle.bitset.proofs.Made.{bit-rest}
-use Rattle.bitset.proofs.Sets.{bit-of-none, none-in-empty}
 use Rattle.pacsolve.specs.declared.Cost.{Cost}
 use Rattle.pacsolve.specs.Problem.{Problem}
 use Rattle.pacsolve.specs.Cost.{weightOf, amount}
@@ -21,7 +19,9 @@ use Rattle.catalogue.specs.Spans.{Rising, Spans}
 use Rattle.catalogue.specs.Survey.{tabled}
 use Rattle.price.specs.declared.Scale.{Scale}
 use Rattle.price.specs.Worth.{codeAt, Scaled, BasePrices}
+use Rattle.price.specs.Prices.{everything}
 use Rattle.price.proofs.Bounds.{base-small}
+use Rattle.price.proofs.Drawing.{in-everything}
 use Rattle.price.proofs.Worth.{Modest, first-number, in-span, scaled-small}
 use Rattle.node.specs.declared.Best.{Best}
 use Rattle.node.specs.declared.Node.{Node}
@@ -56,20 +56,12 @@ pub found-none : {p : Problem} {q : Asked} {node : Node} {choices : List ℕ} {r
     → Found p q buffer r buffer
 found-none whole dead none = none-left none (λ Q good wanted. true≢false (sym (whole .whole Q good wanted .0) ∙ dead)) refl
 
--- the set of all 64 entries
-abbrev everything : ℕ
-everything = 2 ^ 64 - 1 - 0
-
 -- the weights of all entries together, and what the other numbers stay below
 module _ (p : Problem) (modest : Modest p) where
-  in-everything : (e : ℕ) → e < p .entries → bit everything e ≡ 1
-  in-everything e h =
-      bit-rest 64 0 e (omega arith) (omega (arith, modest .entries)) ∙ ap (λ (b : ℕ). 1 - b) (bit-of-none 0 e (none-in-empty e))
-
   heaviest : (set : ℕ) → weightOf p set ≤ weightOf p everything
   unfolding weightOf
   heaviest set =
-      sum-mono (λ e. bit set e * p .weight e) (λ e. bit everything e * p .weight e) (p .entries) (λ e h. rw (in-everything e h) (mul-le-mul-right (p .weight e) (bit-le e)))
+      sum-mono (λ e. bit set e * p .weight e) (λ e. bit everything e * p .weight e) (p .entries) (λ e h. rw (in-everything e (omega (arith, modest .entries))) (mul-le-mul-right (p .weight e) (bit-le e)))
     where
       bit-le : (e : ℕ) → bit set e ≤ 1
       bit-le e = omega arith

@@ -11,8 +11,7 @@ use Rattle.search.specs.declared.Pick.{Pick}
 use Rattle.search.specs.declared.Pick.the-variants.{Split, Force, Dead, Complete}
 use Rattle.search.specs.declared.pick_slot.Standing.{Standing}
 use Rattle.search.specs.declared.pick_slot.Standing.the-variants.{Fine, Open, Narrow, Stuck}
-use Rattle.search.specs.Picks.{Picked, undecided, forced, dead}
-use Rattle.search.specs.Picks.{Stands, wide, narrow, stuck, fine}
+use Rattle.search.specs.Picks.{Picked, undecided, forced, dead, Stands, wide, narrow, stuck, fine}
 
 -- a slot at which there is nothing to do
 abbrev pub Quiet : ℕ → ℕ → ℕ → Type 0

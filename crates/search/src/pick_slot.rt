@@ -8,8 +8,7 @@ use node::holds::Held;
 use node::holds::held_by;
 ghost use Prim.Native.Nat.{_/_, _≤_};
 ghost use lib.ListN.{length};
-ghost use Rattle.search.specs.Picks.{Stands};
-ghost use Rattle.search.specs.Picks.{Picked};
+ghost use Rattle.search.specs.Picks.{Stands, Picked};
 
 // How a slot stands.
 pub enum Standing {

@@ -1,8 +1,7 @@
 // The table of a node whose slots are all decided.
 ghost use Prim.Native.Nat.{_/_, _≤_};
 ghost use lib.ListN.{length};
-ghost use Rattle.search.specs.Picks.{Entered};
-ghost use Rattle.search.specs.Picks.{Tabled};
+ghost use Rattle.search.specs.Picks.{Entered, Tabled};
 
 // What a slot holds: its lowest choice if its owner must be there, else none.
 fn held_in(must: u64, owner: u32, choices: u64) -> u8

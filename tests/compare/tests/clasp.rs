@@ -16,9 +16,9 @@ use second::{Cost, LIMIT, combinations};
 /// The programs that this needs.
 const PROGRAMS: [&str; 2] = ["gringo", "clasp"];
 /// The seconds that clasp may take for a catalogue.
-const SECONDS: u64 = 2;
+const SECONDS: u64 = 20;
 /// Of a hundred catalogues clasp must end so many in time.
-const ENDED: u64 = 50;
+const ENDED: u64 = 95;
 /// How many threads share the catalogues.
 const THREADS: u64 = 2;
 /// How often all settings are gone through for each width and each weave.

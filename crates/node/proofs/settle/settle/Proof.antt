@@ -5,6 +5,8 @@ use Prim.Native.Nat.{ℕ}
 use native.Mathlib.Omega.{arith}
 use borrow.Author.Needs.{needs}
 use Rattle.bitset.specs.Bits.{count}
+use Rattle.bitset.proofs.lowest.Reads as lowest-reads
+use Rattle.bitset.proofs.without.Reads as without-reads
 use Rattle.catalogue.specs.Spans.{Spans}
 use Rattle.catalogue.proofs.Spanned.{span-owner}
 use Rattle.plan.proofs.MemberWalk.{Walked, walk-start, walk-less, walk-on}
@@ -15,8 +17,6 @@ use Rattle.node.proofs.settle.settle.Statement.{statement}
 use Rattle.node.proofs.settle.settle.Tie as tie
 use Rattle.node.proofs.settle.settle.Reads as reads
 use Rattle.node.proofs.settle.settle.Lts as lts
-use Rattle.bitset.proofs.lowest.Reads as lowest-reads
-use Rattle.bitset.proofs.without.Reads as without-reads
 use Rattle.node.proofs.settle.settle_entry.Reads as settle-entry-reads
 
 abbrev Inv-loop : tie.InvT-loop

@@ -1,18 +1,18 @@
 -- `price::draw::least_of` meets its contract: the least so far is no more than the price of any member passed.
 use Prim.Native.Nat.{_≤_, _<_}
 use lib.ListN.{getD}
+use Rattle.bitset.proofs.Sets.{member-below}
 use Rattle.plan.proofs.MemberWalk.{Walked, walk-start, walk-end, walk-less, walk-on}
 use Rattle.price.proofs.Drawing.{walk-weaker}
-use Rattle.bitset.proofs.Sets.{member-below}
 use native.Mathlib.Omega.{arith}
 use borrow.Author.Needs.{needs}
 use Rattle.bitset.specs.Bits.{count}
+use Rattle.bitset.proofs.lowest.Reads as lowest-reads
+use Rattle.bitset.proofs.without.Reads as without-reads
 use Rattle.price.proofs.draw.least_of.Statement.{statement}
 use Rattle.price.proofs.draw.least_of.Tie as tie
 use Rattle.price.proofs.draw.least_of.Reads as reads
 use Rattle.price.proofs.draw.least_of.Lts as lts
-use Rattle.bitset.proofs.lowest.Reads as lowest-reads
-use Rattle.bitset.proofs.without.Reads as without-reads
 use Rattle.price.proofs.draw.lower.Reads as lower-reads
 
 abbrev Inv-loop : tie.InvT-loop

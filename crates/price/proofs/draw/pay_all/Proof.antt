@@ -5,12 +5,12 @@ use Prim.Native.Nat.{_<_}
 use native.Mathlib.Omega.{arith}
 use borrow.Author.Needs.{needs}
 use Rattle.bitset.specs.Bits.{count}
+use Rattle.bitset.proofs.lowest.Reads as lowest-reads
+use Rattle.bitset.proofs.without.Reads as without-reads
 use Rattle.price.proofs.draw.pay_all.Statement.{statement}
 use Rattle.price.proofs.draw.pay_all.Tie as tie
 use Rattle.price.proofs.draw.pay_all.Reads as reads
 use Rattle.price.proofs.draw.pay_all.Lts as lts
-use Rattle.bitset.proofs.lowest.Reads as lowest-reads
-use Rattle.bitset.proofs.without.Reads as without-reads
 
 abbrev Inv-loop : tie.InvT-loop
 Inv-loop price₀ set sum₀ rest₀ price sum rest = Emptying set price₀ price sum rest

@@ -4,6 +4,8 @@ use native.Mathlib.Omega.{arith}
 use borrow.Author.Needs.{needs}
 use Rattle.bitset.specs.Bits.{count}
 use Rattle.bitset.proofs.Sets.{member-below}
+use Rattle.bitset.proofs.lowest.Reads as lowest-reads
+use Rattle.bitset.proofs.without.Reads as without-reads
 use Rattle.plan.proofs.MemberWalk.{Walked, walk-start, walk-at, walk-less, walk-on}
 use Rattle.price.specs.Prices.{Serves, Drawn}
 use Rattle.price.proofs.Drawing.{drawn-none, drawn-more, low-after}
@@ -11,8 +13,6 @@ use Rattle.price.proofs.draw.pay_slots.Statement.{statement}
 use Rattle.price.proofs.draw.pay_slots.Tie as tie
 use Rattle.price.proofs.draw.pay_slots.Reads as reads
 use Rattle.price.proofs.draw.pay_slots.Lts as lts
-use Rattle.bitset.proofs.lowest.Reads as lowest-reads
-use Rattle.bitset.proofs.without.Reads as without-reads
 use Rattle.price.proofs.draw.pay_entry.Reads as pay-entry-reads
 
 abbrev Inv-loop : tie.InvT-loop

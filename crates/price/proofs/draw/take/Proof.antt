@@ -1,16 +1,17 @@
 -- `price::draw::take` meets its contract: the amount is taken from each member passed.
 use Rattle.plan.proofs.MemberWalk.{walk-less}
-use Rattle.price.proofs.Drawing.{Taking, taking-start, taking-small, taking-on, taking-end, some-of}
+use Rattle.price.proofs.Drawing.{Taking, taking-start, taking-small, taking-on, taking-end}
 use Prim.Native.Nat.{_<_}
 use native.Mathlib.Omega.{arith}
 use borrow.Author.Needs.{needs}
 use Rattle.bitset.specs.Bits.{count}
+use Rattle.bitset.proofs.Least.{some-member}
+use Rattle.bitset.proofs.lowest.Reads as lowest-reads
+use Rattle.bitset.proofs.without.Reads as without-reads
 use Rattle.price.proofs.draw.take.Statement.{statement}
 use Rattle.price.proofs.draw.take.Tie as tie
 use Rattle.price.proofs.draw.take.Reads as reads
 use Rattle.price.proofs.draw.take.Lts as lts
-use Rattle.bitset.proofs.lowest.Reads as lowest-reads
-use Rattle.bitset.proofs.without.Reads as without-reads
 
 abbrev Inv-loop : tie.InvT-loop
 Inv-loop price₀ set amount rest₀ price rest = Taking set amount price₀ price rest
@@ -66,7 +67,7 @@ loop-again c =
 returns : tie.Need-returns Inv-loop μ-loop
 returns c =
     let pre = c .before .before .pre in
-    taking-end (c .before .loop .inv) (c .loop-test .left) (omega arith) (some-of _ (omega arith) (pre .1 .0))
+    taking-end (c .before .loop .inv) (c .loop-test .left) (omega arith) (some-member _ (pre .1 .0))
 
 pub take-spec : {M : Type 1} → statement M
 take-spec =

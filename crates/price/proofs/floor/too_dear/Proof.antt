@@ -7,12 +7,12 @@ use Rattle.price.specs.Floor.{Dear}
 use Rattle.price.proofs.Grounds.{dear-none, dear-on}
 use native.Mathlib.Omega.{arith}
 use borrow.Author.Needs.{needs}
+use Rattle.bitset.proofs.lowest.Reads as lowest-reads
+use Rattle.bitset.proofs.without.Reads as without-reads
 use Rattle.price.proofs.floor.too_dear.Statement.{statement}
 use Rattle.price.proofs.floor.too_dear.Tie as tie
 use Rattle.price.proofs.floor.too_dear.Reads as reads
 use Rattle.price.proofs.floor.too_dear.Lts as lts
-use Rattle.bitset.proofs.lowest.Reads as lowest-reads
-use Rattle.bitset.proofs.without.Reads as without-reads
 use Rattle.price.proofs.floor.with_dear.Reads as with-dear-reads
 
 abbrev Inv-loop : tie.InvT-loop

@@ -2,11 +2,11 @@
 use mathlib.Core.Logic.{inl}
 use Rattle.price.proofs.Grounds.{dear-more}
 use borrow.Author.Needs.{needs}
+use Rattle.bitset.proofs.with.Reads as with-reads
 use Rattle.price.proofs.floor.with_dear.Statement.{statement}
 use Rattle.price.proofs.floor.with_dear.Tie as tie
 use Rattle.price.proofs.floor.with_dear.Reads as reads
 use Rattle.price.proofs.floor.with_dear.Lts as lts
-use Rattle.bitset.proofs.with.Reads as with-reads
 
 with-requires : tie.Need-with-requires
 with-requires c κs = search needs

@@ -3,6 +3,7 @@ use Prim.Native.Nat.{_+_, _-_, _<_}
 use native.Mathlib.Omega.{arith}
 use borrow.Author.Needs.{needs}
 use Rattle.bitset.proofs.Sets.{member-below}
+use Rattle.bitset.proofs.lowest.Reads as lowest-reads
 use Rattle.price.specs.Prices.{Drawn}
 use Rattle.price.specs.Needed.{Waiting, Closed}
 use Rattle.price.proofs.Drawing.{drawn-none, drawn-more, low-after}
@@ -10,7 +11,6 @@ use Rattle.price.proofs.needs.follow_all.Statement.{statement}
 use Rattle.price.proofs.needs.follow_all.Tie as tie
 use Rattle.price.proofs.needs.follow_all.Reads as reads
 use Rattle.price.proofs.needs.follow_all.Lts as lts
-use Rattle.bitset.proofs.lowest.Reads as lowest-reads
 use Rattle.price.proofs.needs.follow.Reads as follow-reads
 
 abbrev Inv-loop : tie.InvT-loop

@@ -2,11 +2,11 @@
 use native.Mathlib.Omega.{arith}
 use Rattle.bitset.proofs.Sets.{member-below}
 use borrow.Author.Needs.{needs}
+use Rattle.bitset.proofs.lowest.Reads as lowest-reads
 use Rattle.price.proofs.needs.new_kind.Statement.{statement}
 use Rattle.price.proofs.needs.new_kind.Tie as tie
 use Rattle.price.proofs.needs.new_kind.Reads as reads
 use Rattle.price.proofs.needs.new_kind.Lts as lts
-use Rattle.bitset.proofs.lowest.Reads as lowest-reads
 
 returns : tie.Need-returns
 returns c = search needs

@@ -3,11 +3,11 @@ use Rattle.bitset.proofs.Sets.{member-below}
 use Rattle.price.proofs.Needed.{put-none}
 use native.Mathlib.Omega.{arith}
 use borrow.Author.Needs.{needs}
+use Rattle.bitset.proofs.lowest.Reads as lowest-reads
 use Rattle.price.proofs.needs.note.Statement.{statement}
 use Rattle.price.proofs.needs.note.Tie as tie
 use Rattle.price.proofs.needs.note.Reads as reads
 use Rattle.price.proofs.needs.note.Lts as lts
-use Rattle.bitset.proofs.lowest.Reads as lowest-reads
 use Rattle.price.proofs.needs.put.Reads as put-reads
 
 returns : tie.Need-returns

@@ -4,6 +4,8 @@ use native.Mathlib.Omega.{arith}
 use borrow.Author.Needs.{needs}
 use Rattle.bitset.specs.Bits.{count}
 use Rattle.bitset.proofs.Sets.{member-below}
+use Rattle.bitset.proofs.lowest.Reads as lowest-reads
+use Rattle.bitset.proofs.without.Reads as without-reads
 use Rattle.plan.proofs.MemberWalk.{Walked, walk-start, walk-at, walk-less, walk-on}
 use Rattle.price.specs.Needed.{Waiting}
 use Rattle.price.proofs.Needed.{waiting-none}
@@ -11,8 +13,6 @@ use Rattle.price.proofs.needs.note_all.Statement.{statement}
 use Rattle.price.proofs.needs.note_all.Tie as tie
 use Rattle.price.proofs.needs.note_all.Reads as reads
 use Rattle.price.proofs.needs.note_all.Lts as lts
-use Rattle.bitset.proofs.lowest.Reads as lowest-reads
-use Rattle.bitset.proofs.without.Reads as without-reads
 use Rattle.price.proofs.needs.note_slots.Reads as note-slots-reads
 
 abbrev Inv-loop : tie.InvT-loop

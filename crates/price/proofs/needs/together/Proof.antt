@@ -4,14 +4,14 @@ use native.Mathlib.Omega.{arith}
 use borrow.Author.Needs.{needs}
 use Rattle.bitset.specs.Bits.{count}
 use Rattle.bitset.proofs.Sets.{member-below}
+use Rattle.bitset.proofs.lowest.Reads as lowest-reads
+use Rattle.bitset.proofs.without.Reads as without-reads
 use Rattle.plan.proofs.MemberWalk.{Walked, walk-start, walk-less}
 use Rattle.price.proofs.Needed.{Holds, together-on, together-end}
 use Rattle.price.proofs.needs.together.Statement.{statement}
 use Rattle.price.proofs.needs.together.Tie as tie
 use Rattle.price.proofs.needs.together.Reads as reads
 use Rattle.price.proofs.needs.together.Lts as lts
-use Rattle.bitset.proofs.lowest.Reads as lowest-reads
-use Rattle.bitset.proofs.without.Reads as without-reads
 use Rattle.price.proofs.needs.slot_for.Reads as slot-for-reads
 
 abbrev Inv-loop : tie.InvT-loop

@@ -5,11 +5,11 @@ use Rattle.price.specs.Worth.{basePrice}
 use Rattle.price.proofs.Filling.{Filling, filling-start, filling-on}
 use native.Mathlib.Omega.{arith}
 use borrow.Author.Needs.{needs}
+use Rattle.catalogue.proofs.fields.entry_field.Reads as entry-field-reads
 use Rattle.price.proofs.packages.base_prices.Statement.{statement}
 use Rattle.price.proofs.packages.base_prices.Tie as tie
 use Rattle.price.proofs.packages.base_prices.Reads as reads
 use Rattle.price.proofs.packages.base_prices.Lts as lts
-use Rattle.catalogue.proofs.fields.entry_field.Reads as entry-field-reads
 use Rattle.price.proofs.worths.base_price.Reads as base-price-reads
 
 abbrev Inv-loop : tie.InvT-loop

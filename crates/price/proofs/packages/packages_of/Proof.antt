@@ -5,12 +5,12 @@ use Rattle.bitset.specs.Bits.{count}
 use Rattle.price.proofs.Filling.{Naming, naming-start, naming-small, naming-less, naming-on}
 use native.Mathlib.Omega.{arith}
 use borrow.Author.Needs.{needs}
+use Rattle.bitset.proofs.lowest.Reads as lowest-reads
+use Rattle.bitset.proofs.without.Reads as without-reads
 use Rattle.price.proofs.packages.packages_of.Statement.{statement}
 use Rattle.price.proofs.packages.packages_of.Tie as tie
 use Rattle.price.proofs.packages.packages_of.Reads as reads
 use Rattle.price.proofs.packages.packages_of.Lts as lts
-use Rattle.bitset.proofs.lowest.Reads as lowest-reads
-use Rattle.bitset.proofs.without.Reads as without-reads
 use Rattle.price.proofs.packages.with_package.Reads as with-package-reads
 
 abbrev Inv-loop : tie.InvT-loop

@@ -1,12 +1,12 @@
 -- `price::packages::raised_price` meets its contract.
-use Rattle.price.proofs.FirstMembers.{raised-known, raised-other}
 use Rattle.basis.proofs.Answers.{holds, fails}
+use Rattle.price.proofs.FirstMembers.{raised-known, raised-other}
 use borrow.Author.Needs.{needs}
+use Rattle.bitset.proofs.has.Reads as has-reads
 use Rattle.price.proofs.packages.raised_price.Statement.{statement}
 use Rattle.price.proofs.packages.raised_price.Tie as tie
 use Rattle.price.proofs.packages.raised_price.Reads as reads
 use Rattle.price.proofs.packages.raised_price.Lts as lts
-use Rattle.bitset.proofs.has.Reads as has-reads
 
 has-requires : tie.Need-has-requires
 has-requires c κs = search needs

@@ -2,11 +2,11 @@
 use mathlib.Core.Path.{refl}
 use Rattle.price.proofs.Filling.{named-more}
 use borrow.Author.Needs.{needs}
+use Rattle.bitset.proofs.has.Reads as has-reads
 use Rattle.price.proofs.packages.with_package.Statement.{statement}
 use Rattle.price.proofs.packages.with_package.Tie as tie
 use Rattle.price.proofs.packages.with_package.Reads as reads
 use Rattle.price.proofs.packages.with_package.Lts as lts
-use Rattle.bitset.proofs.has.Reads as has-reads
 
 has-requires : tie.Need-has-requires
 has-requires c κs = search needs

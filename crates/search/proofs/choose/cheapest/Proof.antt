@@ -2,13 +2,13 @@
 use native.Mathlib.Omega.{arith}
 use borrow.Author.Needs.{needs}
 use Rattle.bitset.specs.Bits.{count}
+use Rattle.bitset.proofs.lowest.Reads as lowest-reads
+use Rattle.bitset.proofs.without.Reads as without-reads
 use Rattle.search.proofs.Choosing.{Choosing, choosing-start, choice-below, choosing-less, best-below, choosing-same, choosing-new}
 use Rattle.search.proofs.choose.cheapest.Statement.{statement}
 use Rattle.search.proofs.choose.cheapest.Tie as tie
 use Rattle.search.proofs.choose.cheapest.Reads as reads
 use Rattle.search.proofs.choose.cheapest.Lts as lts
-use Rattle.bitset.proofs.lowest.Reads as lowest-reads
-use Rattle.bitset.proofs.without.Reads as without-reads
 
 abbrev Inv-loop : tie.InvT-loop
 Inv-loop all price best₀ rest₀ best rest = Choosing all best rest

@@ -1,11 +1,11 @@
 -- `search::choose::choose` meets its contract.
 use borrow.Author.Needs.{needs}
+use Rattle.bitset.proofs.lowest.Reads as lowest-reads
 use Rattle.search.proofs.Choosing.{met-chosen}
 use Rattle.search.proofs.choose.choose.Statement.{statement}
 use Rattle.search.proofs.choose.choose.Tie as tie
 use Rattle.search.proofs.choose.choose.Reads as reads
 use Rattle.search.proofs.choose.choose.Lts as lts
-use Rattle.bitset.proofs.lowest.Reads as lowest-reads
 use Rattle.search.proofs.choose.cheapest.Reads as cheapest-reads
 
 lowest-requires : tie.Need-lowest-requires

@@ -13,10 +13,9 @@ use Rattle.search.proofs.pick_slot.pick.Reads as pick-reads
 use Rattle.search.proofs.walk.forced.Reads as forced-reads
 use Rattle.search.proofs.walk.halve.Reads as halve-reads
 use Rattle.search.proofs.keep.keep.Reads as keep-reads
-use Rattle.search.proofs.Falls.{remaining}
+use Rattle.search.proofs.Falls.{remaining, remaining-fewer}
 use Rattle.search.proofs.Looping.{Looping, loop-start, loop-narrowed, loop-dead, loop-stuck, loop-kept, loop-forced, child-less, loop-split}
 use Rattle.search.proofs.Picking.{told-apart, picked-dead, picked-complete, picked-force, picked-split, another, some-choice}
-use Rattle.search.proofs.Falls.{remaining-fewer}
 use lib.ListN.{length-set}
 use Rattle.node.proofs.Slotted.{tabled-slotted}
 use borrow.Author.Tests.{not-true}

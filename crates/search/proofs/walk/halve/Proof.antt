@@ -1,12 +1,12 @@
 -- `search::walk::halve` meets its contract.
 use borrow.Author.Needs.{needs}
+use Rattle.bitset.proofs.with.Reads as with-reads
+use Rattle.bitset.proofs.without.Reads as without-reads
 use Rattle.search.proofs.Halves.{parted}
 use Rattle.search.proofs.walk.halve.Statement.{statement}
 use Rattle.search.proofs.walk.halve.Tie as tie
 use Rattle.search.proofs.walk.halve.Reads as reads
 use Rattle.search.proofs.walk.halve.Lts as lts
-use Rattle.bitset.proofs.with.Reads as with-reads
-use Rattle.bitset.proofs.without.Reads as without-reads
 use Rattle.search.proofs.choose.choose.Reads as choose-reads
 
 choose-requires : tie.Need-choose-requires
