@@ -1,4 +1,6 @@
 // The public calls as C functions on numbers and slices. Each gives back its number, 0 where nothing is refused; what else it answers crosses in lent slices of a fixed length.
+#![tactic(auto)]
+
 ghost use Rattle.std.specs.Prelude.{length, [], ◌∷◌, ◌≡◌};
 ghost use Rattle.catalogue.specs.Tables.{lent};
 ghost use Rattle.abi.specs.Crossing.{three, settings_of, version_of, FitsC, ChecksC, ListsC, TurnsC, ReadsC};

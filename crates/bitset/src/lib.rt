@@ -1,4 +1,6 @@
 // A 64-bit set of entries: bit e stands for entry e.
+#![tactic(auto)]
+
 ghost use Rattle.std.specs.Prelude.{◌≡◌};
 ghost use Rattle.basis.specs.Tests.{Decides};
 ghost use Rattle.bitset.specs.Bits.{Member, count as count_of};

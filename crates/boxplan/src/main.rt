@@ -1,4 +1,6 @@
 // boxplan: reads a catalogue's text from standard input and writes its plans, or the refusal's number, to standard output.
+#![tactic(auto)]
+
 use libc::{STDIN_FILENO, STDOUT_FILENO};
 
 // A text of 65,535 bytes is the longest that read takes, so one byte more is all that has to be read to refuse a longer one.

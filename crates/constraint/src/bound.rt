@@ -10,14 +10,14 @@ use crate::reader::Parsed;
 use crate::word::agreed;
 
 // The bracket and the sign that open a bound, with the space after them.
-#[derive(Drop)]
+#[derive(Clone, Copy)]
 pub enum Opening {
     Read { sign: Sign, used: usize },
     Stopped,
 }
 
 // The three numbers of a version, with the bracket that closes them.
-#[derive(Drop)]
+#[derive(Clone, Copy)]
 pub enum Triple {
     Read { version: Version, used: usize },
     Stopped,

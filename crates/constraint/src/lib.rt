@@ -1,4 +1,6 @@
 // Versions and constraints: a constraint is read against one version, or once for many packed versions (document 01, "Constraints").
+#![tactic(auto)]
+
 use basis::Refusal;
 use reader::{Parsed, constraint};
 
@@ -13,7 +15,7 @@ ghost use Rattle.std.specs.Prelude.{◌≡◌, ◌≤◌, length};
 ghost use Rattle.constraint.specs.Reading.{Answers};
 ghost use Rattle.constraint.specs.Selection.{key, Selects};
 
-#[derive(Drop)]
+#[derive(Clone, Copy)]
 pub struct Version {
     pub major: u16,
     pub minor: u16,
@@ -21,7 +23,7 @@ pub struct Version {
 }
 
 // What reading one constraint against one version answers.
-#[derive(Drop)]
+#[derive(Clone, Copy)]
 pub enum Reading {
     // The version fits.
     Fits,
@@ -32,7 +34,7 @@ pub enum Reading {
 }
 
 // What reading one constraint against many versions answers.
-#[derive(Drop)]
+#[derive(Clone, Copy)]
 pub enum Selection {
     // The set of those that satisfy it: bit e for version e.
     Versions(u64),

@@ -3,7 +3,7 @@ ghost use Rattle.constraint.specs.Numeral.{Digit};
 ghost use Rattle.constraint.specs.Reader.{Grows, Longest, ReadsField};
 
 // What a byte does to the number read before it.
-#[derive(Drop)]
+#[derive(Clone, Copy)]
 pub enum Growth {
     // It is one more digit, and makes it this number.
     On(u16),
@@ -12,7 +12,7 @@ pub enum Growth {
 }
 
 // A number, and how many bytes write it: none where there is no number.
-#[derive(Drop)]
+#[derive(Clone, Copy)]
 pub struct Written {
     pub value: u16,
     pub used: usize,
@@ -57,7 +57,7 @@ pub fn longest(rest: &[u8]) -> Written
 }
 
 // A number and the byte that ends it, or no such beginning.
-#[derive(Drop)]
+#[derive(Clone, Copy)]
 pub enum Field {
     Read { value: u16, used: usize },
     Stopped,

@@ -4,7 +4,7 @@ ghost use Rattle.constraint.specs.Range.{bound_of, Spans, CaretEnds};
 use crate::Version;
 
 // The sign of a bound.
-#[derive(Drop)]
+#[derive(Clone, Copy)]
 pub enum Sign {
     Equal,
     AtMost,
@@ -13,7 +13,7 @@ pub enum Sign {
 }
 
 // The keys from low to high, both included.
-#[derive(Drop)]
+#[derive(Clone, Copy)]
 pub struct Range {
     pub low: u64,
     pub high: u64,

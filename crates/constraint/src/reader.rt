@@ -8,14 +8,14 @@ use crate::keys::all;
 use crate::word::agreed;
 
 // The set of a constraint, and how many bytes spell it.
-#[derive(Drop)]
+#[derive(Clone, Copy)]
 pub enum Parsed {
     Read { set: u64, used: usize },
     Stopped,
 }
 
 // The sets of a pair's two sides, and how many bytes spell them, with the bracket that closes them.
-#[derive(Drop)]
+#[derive(Clone, Copy)]
 pub enum Sides {
     Read { one: u64, other: u64, used: usize },
     Stopped,

@@ -5,21 +5,21 @@ use crate::line::Parsed;
 use crate::{line, word};
 
 // How far the text is read, and what was declared so far.
-#[derive(Drop)]
+#[derive(Clone, Copy)]
 pub struct Progress {
     pub at: usize,
     pub entries: usize,
     pub slots: usize,
 }
 
-#[derive(Drop)]
+#[derive(Clone, Copy)]
 pub enum Step {
     On(Progress),
     // The text is outside the layout.
     Outside,
 }
 
-#[derive(Drop)]
+#[derive(Clone, Copy)]
 pub enum Tally {
     Lines { entries: usize, slots: usize },
     // The text is outside the layout.

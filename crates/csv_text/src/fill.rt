@@ -6,7 +6,7 @@ use crate::line::{EntryParts, Parsed, SlotParts};
 use crate::{line, packages, word};
 
 // How far the text is read: the byte, and the numbers of entries, slots and names so far.
-#[derive(Drop)]
+#[derive(Clone, Copy)]
 pub struct Reached {
     pub at: usize,
     pub entries: usize,

@@ -1,4 +1,6 @@
 // Reading a catalogue from text (document 01, "The text and the program"): the answer, and the public call.
+#![tactic(auto)]
+
 use basis::Refusal;
 use count::Tally;
 
@@ -14,7 +16,7 @@ ghost use Rattle.csv_text.specs.Reading.{Reads};
 pub use field::plain_bytes;
 pub use word::HEADER;
 
-#[derive(Drop)]
+#[derive(Clone, Copy)]
 pub enum Sheet {
     // The text is outside the layout or the limits, or a lent table is of another size.
     Refused(Refusal),

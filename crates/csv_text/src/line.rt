@@ -4,7 +4,7 @@ ghost use Rattle.csv_text.specs.Reader.{Released, IsEntry, IsSlot, IsLine, Parse
 use crate::{field, word};
 
 // A version and the comma behind it, and how many bytes they are: 0 where there is none.
-#[derive(Drop)]
+#[derive(Clone, Copy)]
 pub struct Release {
     pub major: u16,
     pub minor: u16,
@@ -13,7 +13,7 @@ pub struct Release {
 }
 
 // What an entry's record declares: the length of its name, its numbers, and its own length.
-#[derive(Drop)]
+#[derive(Clone, Copy)]
 pub struct EntryParts {
     pub name: usize,
     pub major: u16,
@@ -24,14 +24,14 @@ pub struct EntryParts {
 }
 
 // A slot's record: the lengths of its two fields, and its own.
-#[derive(Drop)]
+#[derive(Clone, Copy)]
 pub struct SlotParts {
     pub name: usize,
     pub constraint: usize,
     pub used: usize,
 }
 
-#[derive(Drop)]
+#[derive(Clone, Copy)]
 pub enum Parsed {
     Entry(EntryParts),
     Slot(SlotParts),

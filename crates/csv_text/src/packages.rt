@@ -4,7 +4,7 @@ ghost use Rattle.csv_text.specs.Says.{same_name, place};
 ghost use Rattle.csv_text.specs.Numbering.{part, known, Marks, Numbers};
 
 // A name's number, and how many names are known with it.
-#[derive(Drop)]
+#[derive(Clone, Copy)]
 pub struct Numbered {
     pub place: usize,
     pub known: usize,

@@ -1,4 +1,6 @@
 // What the calls of the listing answer, and the record that each turn moves forward (document 01, "Calls and what they give back").
+#![tactic(auto)]
+
 mod ask;
 pub mod by_value;
 
@@ -10,7 +12,7 @@ use basis::Refusal;
 use catalogue::Settings;
 use pacsolve::Cost;
 
-#[derive(Drop)]
+#[derive(Clone, Copy)]
 pub enum Answer {
     Refused(Refusal),
     // A plan's set and cost; its table is in the plan buffer.
@@ -18,14 +20,14 @@ pub enum Answer {
 }
 
 // Stage 0 is fresh, 1 running, 2 ended; last is the set of the last plan given.
-#[derive(Drop)]
+#[derive(Clone, Copy)]
 pub struct ListingRecord {
     pub stage: u8,
     pub last: u64,
 }
 
 // What a turn by value gives back: the answer, and the record as it then is.
-#[derive(Drop)]
+#[derive(Clone, Copy)]
 pub struct Turned {
     pub answer: Answer,
     pub listing: ListingRecord,

@@ -2,7 +2,7 @@
 ghost use Rattle.node.specs.Members.{Holds};
 ghost use Rattle.node.specs.Settling.{Less};
 
-#[derive(Drop)]
+#[derive(Clone, Copy)]
 pub enum Held {
     Nothing,
     One(u32),

@@ -1,4 +1,6 @@
 // A node of the search, and how it is narrowed: only what no plan that is sought has is dropped. The steps see sets, weights and owners: no text, no constraint.
+#![tactic(auto)]
+
 mod afford;
 mod banned;
 mod ceiling;
@@ -15,7 +17,7 @@ mod within_reach;
 use pacsolve::Cost;
 
 // A plan's set and cost, where there is a plan; its table stands beside it in a buffer. Where there is none yet, cost is the bound that plans are looked for below.
-#[derive(Drop)]
+#[derive(Clone, Copy)]
 pub struct Best {
     pub found: bool,
     pub set: u64,
@@ -23,7 +25,7 @@ pub struct Best {
 }
 
 // What is known of the plans that are looked for at a node: they have all of must and none of ban. Where alive is false there are none.
-#[derive(Drop)]
+#[derive(Clone, Copy)]
 pub struct Node {
     pub must: u64,
     pub ban: u64,

@@ -9,7 +9,7 @@ use crate::Node;
 use crate::holds::{Held, all_but, held_by};
 
 // What one slot makes of a node, and its choices that are left.
-#[derive(Drop)]
+#[derive(Clone, Copy)]
 pub struct Narrowed {
     pub node: Node,
     pub choices: u64,

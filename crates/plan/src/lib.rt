@@ -1,5 +1,7 @@
 // A check of a plan: the six conditions, each by a function of its own, the cost, and what a check answers (document 01, "What a plan is", "Calls and what
 // they give back").
+#![tactic(auto)]
+
 mod conditions;
 pub mod costs;
 pub mod cycles;
@@ -15,7 +17,7 @@ use basis::Refusal;
 use catalogue::Settings;
 use pacsolve::Cost;
 
-#[derive(Drop)]
+#[derive(Clone, Copy)]
 pub enum Checked {
     // The catalogue, the settings or the buffer is bad.
     Refused(Refusal),

@@ -10,7 +10,7 @@ use crate::needs::pay_needs;
 use crate::packages::{packages_of, raised};
 
 // What every plan inside a node pays, and how much less than that its cost may be.
-#[derive(Drop)]
+#[derive(Clone, Copy)]
 pub struct Ground {
     pub sum: u64,
     pub credit: u64,

@@ -1,5 +1,7 @@
 // Prices of entries. A cost is one number, and the price of an entry is what it adds to that number. What is drawn from the prices is drawn from every set that a
 // node asks for, so that the sum of it and what is left bound a plan's cost from below.
+#![tactic(auto)]
+
 pub mod draw;
 pub mod floor;
 pub mod needs;
@@ -7,7 +9,7 @@ pub mod packages;
 pub mod worths;
 
 // How many times each number of a cost counts in its worth; and how many times dependencies and duplicates do, which start one member late.
-#[derive(Drop)]
+#[derive(Clone, Copy)]
 pub struct Scale {
     pub first: u64,
     pub second: u64,

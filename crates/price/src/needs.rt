@@ -8,7 +8,7 @@ ghost use Rattle.price.specs.Needed.{SlotOf, Leads, Put, Waiting, Closed};
 use crate::draw::pay;
 
 // The entries that are looked for no more, how many sets wait, and what the last step drew.
-#[derive(Drop)]
+#[derive(Clone, Copy)]
 struct Reach {
     seen: u64,
     count: usize,

@@ -11,7 +11,7 @@ use catalogue::fields::entry_field;
 const WEIGHT: usize = 4;
 
 // Entries of so many packages.
-#[derive(Drop)]
+#[derive(Clone, Copy)]
 pub struct Known {
     pub entries: u64,
     pub packages: u64,

@@ -1,4 +1,6 @@
 // What boxplan prints for a text (document 01, "The text and the program"), put into a lent buffer.
+#![tactic(auto)]
+
 use csv_text::Sheet;
 
 mod members;

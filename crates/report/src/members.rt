@@ -6,7 +6,7 @@ use csv_text::line;
 use csv_text::line::{EntryParts, Parsed};
 
 // How far the text is read, how many entries were declared so far, and how far the output is filled.
-#[derive(Drop)]
+#[derive(Clone, Copy)]
 pub struct Place {
     pub at: usize,
     pub entries: u32,

@@ -14,14 +14,14 @@ const SETTINGS: Settings = Settings {
 };
 
 // The plan shown last: its set, its number, and how far the output is filled with it.
-#[derive(Drop)]
+#[derive(Clone, Copy)]
 pub struct Shown {
     pub set: u64,
     pub number: u8,
     pub filled: usize,
 }
 
-#[derive(Drop)]
+#[derive(Clone, Copy)]
 pub enum Step {
     On(Shown),
     // There is no further plan.

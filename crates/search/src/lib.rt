@@ -1,4 +1,6 @@
 // The search for the least plan: a walk over nodes, in rounds.
+#![tactic(auto)]
+
 mod choose;
 pub mod keep;
 pub mod least;
@@ -8,7 +10,7 @@ mod table;
 mod walk;
 
 // What is to be done next at a node.
-#[derive(Drop)]
+#[derive(Clone, Copy)]
 pub enum Pick {
     // Decide this slot, which has two choices or more.
     Split(usize),

@@ -7,7 +7,7 @@ use crate::rank::{Lead, Rank, leading, rank_of};
 use node::holds::{Held, held_by};
 
 // How a slot stands.
-#[derive(Drop)]
+#[derive(Clone, Copy)]
 pub enum Standing {
     // Its owner need not be there, or its only choice is a must.
     Fine,

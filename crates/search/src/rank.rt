@@ -2,7 +2,7 @@
 ghost use Rattle.search.specs.Ranking.{Leads};
 
 // How a slot ranks: whether a must entry is one of its choices, how many choices it has, and what they cost together.
-#[derive(Drop)]
+#[derive(Clone, Copy)]
 pub struct Rank {
     pub met: bool,
     pub count: u32,
@@ -10,7 +10,7 @@ pub struct Rank {
 }
 
 // The slot that leads so far, where there is one.
-#[derive(Drop)]
+#[derive(Clone, Copy)]
 pub struct Lead {
     pub found: bool,
     pub slot: usize,

@@ -17,7 +17,7 @@ use node::{Best, Node};
 use price::Scale;
 
 // A choice of several, and the others.
-#[derive(Drop)]
+#[derive(Clone, Copy)]
 struct Halves {
     one: u64,
     rest: u64,

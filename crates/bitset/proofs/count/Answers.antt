@@ -1,0 +1,9 @@
+-- `bitset::count` meets its contract: what the machine counts is the sum of the bits.
+use borrow.Author.Rules.{rules}
+use mathlib.Core.Path.{sym}
+use native.Mathlib.Omega.{arith}
+use Rattle.bitset.proofs.Counts.{count_ones}
+use Rattle.bitset.proofs.count.Goals as goal
+
+pub returns : goal.returns
+returns c = sym (count_ones c.args.set (omega arith))

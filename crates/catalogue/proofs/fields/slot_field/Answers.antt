@@ -1,0 +1,12 @@
+-- `catalogue::fields::slot_field` meets its contract: within the table it reads the number, and past the table's end a list has 0.
+use borrow.Author.Rules.{rules}
+use native.Mathlib.Omega.{arith}
+use lib.ListN.{get_or-eq_default}
+use mathlib.Core.Path.{sym}
+use Rattle.catalogue.proofs.fields.slot_field.Goals as goal
+
+pub returns-then-s-n : goal.returns-then-s-n
+returns-then-s-n c = sym (get_or-eq_default c.args.slots.now 0 (omega arith))
+
+pub returns : goal.returns
+returns c = sym (get_or-eq_default c.args.slots.now 0 (omega arith))

@@ -1,0 +1,19 @@
+-- `catalogue::slots::end_past_text` meets its contract. The loop's invariant: no end passed is past the text. The measure is the slots left.
+use borrow.Author.Rules.{rules}
+use Prim.Native.Nat.{ℕ, ◌-◌, ◌≤◌, ◌<◌}
+use lib.ListN.{length}
+use native.Mathlib.Omega.{arith}
+use borrow.Author.Count.{below_more}
+use Rattle.catalogue.specs.Tables.{end_of}
+use Rattle.catalogue.specs.Parts.{slots_alone}
+use Rattle.catalogue.proofs.Searches.{found, none_found}
+use Rattle.catalogue.proofs.slots.end_past_text.Goals as goal
+
+pub returns-then-end-text : goal.returns-then-end-text
+returns-then-end-text c = found _ _ c.loop-s.s c.loop-s-test.true (omega arith)
+
+pub loop-s-preserved : goal.loop-s-preserved
+loop-s-preserved c = (search rules, below_more _ c.loop-s.s c.loop-s.invariant.1 (λ h. omega arith))
+
+pub returns : goal.returns
+returns c = none_found _ _ _ c.loop-s-test.false c.loop-s.invariant.1

@@ -1,0 +1,19 @@
+-- `node::ceiling::low_in` meets its contract.
+use borrow.Author.Rules.{rules}
+use native.Mathlib.Omega.{arith}
+use Rattle.node.proofs.Few.{lowest_fits}
+use Rattle.node.proofs.Lower.{lowest_low}
+use Rattle.node.proofs.Told.{said_yes}
+use Rattle.bitset.proofs.has.Reads as has-reads
+use Rattle.bitset.proofs.lowest.Reads as lowest-reads
+use Rattle.node.proofs.ceiling.low_in.Reads as reads
+use Rattle.node.proofs.ceiling.low_in.Goals as goal
+
+pub returns-then-has : goal.returns-then-has
+returns-then-has c = record { due = λ n e m. absurd (n (said_yes c.has.ensures c.if-has.true)); most = omega arith }
+
+pub overflow_cast-result : goal.overflow_cast-result
+overflow_cast-result c = omega (arith, lowest_fits (omega arith) c.lowest.ensures)
+
+pub returns : goal.returns
+returns c = record { due = λ n e m. lowest_low c.lowest.ensures e m; most = omega (arith, lowest_fits (omega arith) c.lowest.ensures) }

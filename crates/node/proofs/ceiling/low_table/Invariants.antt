@@ -1,0 +1,18 @@
+-- `node::ceiling::low_table` meets its contract: what is stored for each slot before `s` is what `low_in` says.
+use mathlib.Core.Path.{◌≡◌, refl}
+use Prim.Native.Nat.{ℕ, ◌≤◌, ◌<◌, ◌-◌, ◌*◌}
+use native.Mathlib.Omega.{arith}
+use borrow.Author.Count.{below_none}
+use lib.ListN.{length, get_or, length-set}
+use Rattle.pacsolve.specs.Plan.{none}
+use Rattle.catalogue.specs.Spans.{owner_in}
+use Rattle.node.specs.Facts.{LowIn}
+use Rattle.node.proofs.Stores.{stored_more}
+use Rattle.node.proofs.ceiling.low_table.Given as goal
+
+abbrev pub invariant-loop-s : goal.invariant-loop-s
+invariant-loop-s l =
+    (l.s ≤ l.count) × (length l.table ≡ 256) × ((k : ℕ) → k < l.s → LowIn l.ban (owner_in l.slots k) (get_or l.choices k 0) (get_or l.table k none))
+
+abbrev pub decreases-loop-s : goal.decreases-loop-s
+decreases-loop-s l = l.count - l.s

@@ -1,0 +1,14 @@
+-- `node::clash::equal_row` meets its contract: of the entries before `f`, the row holds exactly those whose field `k` is that of `e`.
+use mathlib.Core.Logic.{⊎_elim}
+use mathlib.Core.Path.{◌≡◌, sym, ◌∙◌}
+use Prim.Native.Nat.{◌≤◌, ◌-◌}
+use native.Mathlib.Omega.{arith}
+use Rattle.plan.specs.Pairs.{field}
+use Rattle.node.proofs.Clashing.{Upto, upto_none, upto_with, upto_same, upto_end}
+use Rattle.node.proofs.clash.equal_row.Given as goal
+
+abbrev pub invariant-loop-f : goal.invariant-loop-f
+invariant-loop-f l = (l.f ≤ l.count) × Upto (λ g. field l.entries g l.k ≡ field l.entries l.e l.k) l.f l.row
+
+abbrev pub decreases-loop-f : goal.decreases-loop-f
+decreases-loop-f l = l.count - l.f

@@ -1,0 +1,11 @@
+-- `node::grounded::ungrounded` meets its contract, whatever the ground: what a round promises where it adds nothing is enough. The measure is the number of rounds left.
+use Prim.Native.Nat.{◌-◌, ◌^◌, ◌<◌}
+use native.Mathlib.Omega.{arith}
+use Rattle.node.proofs.Grounding.{hangs_none, hangs_held}
+use Rattle.node.proofs.grounded.ungrounded.Given as goal
+
+abbrev pub invariant-loop-round : goal.invariant-loop-round
+invariant-loop-round l = l.ground < 2 ^ 64
+
+abbrev pub decreases-loop-round : goal.decreases-loop-round
+decreases-loop-round l = 65 - l.round

@@ -1,0 +1,41 @@
+-- `price::floor::too_dear` meets its contract: of the members passed none is in that is not dear.
+use borrow.Author.Rules.{rules}
+use Prim.Native.Nat.{◌<◌}
+use Rattle.bitset.specs.Bits.{count}
+use Rattle.bitset.proofs.Sets.{member_below}
+use Rattle.plan.proofs.MemberWalk.{Walked, walk_start, walk_less, walk_on}
+use Rattle.price.specs.Floor.{Dear}
+use Rattle.price.proofs.Grounds.{dear_none, dear_on}
+use native.Mathlib.Omega.{arith}
+use Rattle.bitset.proofs.lowest.Reads as lowest-reads
+use Rattle.bitset.proofs.without.Reads as without-reads
+use Rattle.price.proofs.floor.too_dear.Reads as reads
+use Rattle.price.proofs.floor.with_dear.Reads as with-dear-reads
+use Rattle.price.proofs.floor.too_dear.Goals.{After-lowest-e, After-way_told-1}
+use Rattle.price.proofs.floor.too_dear.Goals as goal
+
+small : (c : After-lowest-e invariant_loop decreases_loop) → c.lowest-e.result < 64
+small c = member_below 64 _ _ c.loop-rest.invariant.0.fits (c.lowest-e.ensures.some c.loop-rest-test.true).member
+
+pub loop-rest-init : goal.loop-rest-init
+loop-rest-init c = (walk_start _ (omega arith), dear_none)
+
+pub overflow_cast-e : goal.overflow_cast-e
+overflow_cast-e c = omega (arith, small (goal.at.overflow_cast-e c).After-lowest-e)
+
+pub offset_bounds-price-e : goal.offset_bounds-price-e
+offset_bounds-price-e c = omega (arith, small (goal.at.offset_bounds-price-e c).After-lowest-e)
+
+pub bounds-price-e : goal.bounds-price-e
+bounds-price-e c = small (goal.at.bounds-price-e c).After-way_told-1
+
+pub loop-rest-smaller : goal.loop-rest-smaller
+loop-rest-smaller c =
+    walk_less c.loop-rest.invariant.0 c.loop-rest-test.true c.lowest-e.ensures c.without-rest.ensures
+
+pub loop-rest-preserved : goal.loop-rest-preserved
+loop-rest-preserved c =
+    (walk_on c.loop-rest.invariant.0 c.loop-rest-test.true c.lowest-e.ensures c.without-rest.ensures tt, dear_on c.loop-rest.invariant.1 c.with_dear-dear.ensures)
+
+pub returns : goal.returns
+returns c = c.loop-rest.invariant.1

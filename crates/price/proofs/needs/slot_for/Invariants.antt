@@ -1,0 +1,13 @@
+-- `price::needs::slot_for` meets its contract: the slot that is looked at is one of e.
+use mathlib.Core.Path.{refl}
+use Prim.Native.Nat.{◌+◌, ◌-◌, ◌≤◌}
+use lib.ListN.{get_or}
+use native.Mathlib.Omega.{arith}
+use Rattle.price.proofs.needs.slot_for.Reads as reads
+use Rattle.price.proofs.needs.slot_for.Given as goal
+
+abbrev pub invariant-loop-s : goal.invariant-loop-s
+invariant-loop-s l = get_or l.first l.e 0 ≤ l.s
+
+abbrev pub decreases-loop-s : goal.decreases-loop-s
+decreases-loop-s l = l.end - l.s

@@ -1,0 +1,17 @@
+-- `report::members::all` meets its contract. The loop's invariant: of the text's lines some are passed, and the records of their members are put. The measure is what is left of the text.
+use mathlib.Core.Path.{◌≡◌, refl, ◌∙◌}
+use mathlib.Core.List.{List, [], ◌∷◌, ◌++◌}
+use Prim.Native.Nat.{◌-◌}
+use native.Mathlib.Omega.{arith}
+use lib.ListN.{length}
+use Rattle.csv_text.specs.Layout.{Line}
+use Rattle.report.specs.Telling.{Telling}
+use Rattle.report.proofs.Telling.{telling_none, all_told}
+use Rattle.report.proofs.members.all.Given as goal
+
+abbrev pub invariant-loop-here : goal.invariant-loop-here
+invariant-loop-here l =
+    (lines : List Line) × (done : List Line) × Telling l.text l.set l.number l.initial.out l.at lines done l.here l.out × (length l.out ≡ length l.initial.out)
+
+abbrev pub decreases-loop-here : goal.decreases-loop-here
+decreases-loop-here l = length l.text - l.here.at
