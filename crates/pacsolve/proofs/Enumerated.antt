@@ -1,6 +1,6 @@
 -- The sound plans are finitely many, and a definition that computes lists them: every table whose slots hold a fitting entry or 255, with the set that the table
 -- fixes, kept where the six conditions hold, in order. So a listing exists, and so does a least plan, or there is none.
-use mathlib.Core.Path.{◌≡◌, refl, ap, ◌∙◌}
+use mathlib.Core.Path.{◌≡◌, refl, sym, ap, ◌∙◌, subst}
 use mathlib.Core.Bool.{Bool, ◌||◌}
 use mathlib.Core.List.{List, [], ◌∷◌, ◌++◌, map}
 use mathlib.Core.Logic.{◌⊎◌, inl, inr, ⊎_elim}
@@ -99,6 +99,7 @@ module _ (p : Problem) (c : Computes p) where
   tables_sized : (s m : ℕ) (t : List ℕ) → In t (tables s m) → length t ≡ m
   unfolding tables
   tables_sized s zero t (inl e) = ap length e
+  tables_sized s zero t (inr i) = elim i [ ]
   tables_sized s (suc m) t i =
       let f = in_in_front t (options s) (tables (suc s) m) i in
       ap length f.3 ∙ ap suc (tables_sized (suc s) m f.1 f.2)
@@ -109,9 +110,9 @@ module _ (p : Problem) (c : Computes p) where
   tables_complete s zero (o ∷ t) e f = absurd (omega arith)
   tables_complete s (suc m) [] e f = absurd (omega arith)
   tables_complete s (suc m) (o ∷ t) e f =
-      in_front_in o t (options s) (tables (suc s) m) (rw (add-zero s) at (f 0 (zero-lt-suc m)))
+      in_front_in o t (options s) (tables (suc s) m) (subst (λ (k : ℕ). In o (options k)) (add-zero s) (f 0 (zero-lt-suc m)))
       (tables_complete (suc s) m t (omega arith) (λ i h.
-      let shift : s + suc i ≡ suc s + i = omega arith in rw shift at (f (suc i) (omega arith))))
+      let shift : s + suc i ≡ suc s + i = omega arith in subst (λ (k : ℕ). In (get_or t i none) (options k)) shift (f (suc i) (omega arith))))
 
   -- every table that is worth a look, as a plan
   unfoldable pub candidates : List Plan
@@ -136,7 +137,7 @@ module _ (p : Problem) (c : Computes p) where
       let t = P.table in
       let s : P.set ≡ set_of p t = set_of_sound p c.few g.sound in
       let same : P ≡ plan (set_of p t) t = λ i. record { set = s i; table = t } in
-      let i = tables_complete 0 p.slots t g.sized (λ i h. rw (zero-add i) (good_option g i h)) in
+      let i = tables_complete 0 p.slots t g.sized (λ i h. subst (λ (k : ℕ). In (get_or t i none) (options k)) (sym (zero-add i)) (good_option g i h)) in
       rw same (map_in (λ u. plan (set_of p u) u) (tables 0 p.slots) t i)
 
   kept_good : (P : Plan) → In P (passing (sound? p c) candidates) → Good p P

@@ -39,6 +39,7 @@ lower_same_higher a b = go (dec_lt a b) (dec_lt b a)
     go (no h) (no k) = inr (inl (omega arith))
 
 pub earlier_irrefl : (s : List ℕ) → ¬ Earlier s s
+earlier_irrefl [] h = elim h [ ]
 earlier_irrefl (a ∷ s) h = go (earlier_cases h) (earlier_irrefl s)
   where
     go : (a < a) ⊎ ((a ≡ a) × Earlier s s) → ¬ Earlier s s → ⊥
@@ -46,6 +47,9 @@ earlier_irrefl (a ∷ s) h = go (earlier_cases h) (earlier_irrefl s)
     go (inr x) n = n x.1
 
 pub earlier_trans : (s t u : List ℕ) → Earlier s t → Earlier t u → Earlier s u
+earlier_trans [] t u h k = elim h [ ]
+earlier_trans (a ∷ s) [] u h k = elim h [ ]
+earlier_trans (a ∷ s) (b ∷ t) [] h k = elim k [ ]
 earlier_trans (a ∷ s) (b ∷ t) (c ∷ u) h k = go (earlier_cases h) (earlier_cases k) (earlier_trans s t u)
   where
     go : (a < b) ⊎ ((a ≡ b) × Earlier s t) → (b < c) ⊎ ((b ≡ c) × Earlier t u) → (Earlier s t → Earlier t u → Earlier s u) → Earlier (a ∷ s) (c ∷ u)

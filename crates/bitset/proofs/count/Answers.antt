@@ -1,5 +1,4 @@
 -- `bitset::count` meets its contract: what the machine counts is the sum of the bits.
-use borrow.Author.Rules.{rules}
 use mathlib.Core.Path.{sym}
 use native.Mathlib.Omega.{arith}
 use Rattle.bitset.proofs.Counts.{count_ones}

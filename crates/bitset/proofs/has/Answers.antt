@@ -1,5 +1,4 @@
 -- `bitset::has` meets its contract: the test reads the bit, and a 64-bit set has no member of 64 and more.
-use borrow.Author.Rules.{rules}
 use native.Mathlib.Omega.{arith}
 use Rattle.basis.proofs.Decide.{decides_eq}
 use Rattle.bitset.specs.Bits.{bit}

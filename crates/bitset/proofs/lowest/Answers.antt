@@ -1,5 +1,4 @@
 -- `bitset::lowest` meets its contract: the zeros below a set's lowest bit that is 1 are the number of its lowest member, and of the empty set all 64 are zeros.
-use borrow.Author.Rules.{rules}
 use mathlib.Core.Path.{ap, ◌∙◌}
 use native.Mathlib.Omega.{arith}
 use lib.Count.{count_trailing_zeros, trailing_of_zero}

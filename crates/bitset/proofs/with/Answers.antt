@@ -1,5 +1,4 @@
 -- `bitset::with` meets its contract: the only member of 1 shifted by e is e, and a bitwise or has the members of both.
-use borrow.Author.Rules.{rules}
 use mathlib.Core.Path.{refl}
 use native.Mathlib.Omega.{arith}
 use Rattle.bitset.proofs.Made.{or_one_members, one_shifted}

@@ -1,5 +1,4 @@
 -- `bitset::without` meets its contract: all bits but bit e have every member but e, and a bitwise and has the members that both have.
-use borrow.Author.Rules.{rules}
 use native.Mathlib.Omega.{arith}
 use Rattle.bitset.proofs.Made.{and_rest_members, one_shifted}
 use Rattle.bitset.proofs.without.Goals as goal

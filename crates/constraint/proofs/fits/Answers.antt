@@ -1,5 +1,4 @@
 -- `constraint::fits` meets its contract: the version's key is selected exactly if the version satisfies the constraint.
-use borrow.Author.Rules.{rules}
 use mathlib.Core.Path.{refl}
 use mathlib.Core.Logic.{inl}
 use native.Mathlib.Omega.{arith}

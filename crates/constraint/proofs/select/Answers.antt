@@ -1,5 +1,4 @@
 -- `constraint::select` meets its contract: what was read of the part is all of it, or the part is read as no constraint.
-use borrow.Author.Rules.{rules}
 use mathlib.Core.Path.{refl}
 use native.Mathlib.Omega.{arith}
 use Rattle.constraint.specs.Selection.{Selects}

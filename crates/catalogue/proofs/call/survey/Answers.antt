@@ -1,5 +1,4 @@
 -- `catalogue::call::survey` meets its contract: each of its four returns is one outcome of the rows.
-use borrow.Author.Rules.{rules}
 use mathlib.Core.Path.{sym}
 use native.Mathlib.Omega.{arith}
 use Rattle.catalogue.specs.Parts.{tables}
@@ -31,7 +30,7 @@ slice_bounds-index_slots-end c =
 pub index_slots-found-requires : goal.index_slots-found-requires
 index_slots-found-requires c =
     let right = well_shaped (tables c.args.entries.now c.args.slots.now c.args.text.now) c.shape_refusal-shape.ensures c.if-shape-ne0.false in
-    (right, keys_listed c.args.entries.now c.keys-packed.result right.entries c.keys-packed.ensures)
+    record { shaped = right; keys = keys_listed c.args.entries.now c.keys-packed.result right.entries c.keys-packed.ensures }
 
 pub returns-then-found-ne0 : goal.returns-then-found-ne0
 returns-then-found-ne0 c =

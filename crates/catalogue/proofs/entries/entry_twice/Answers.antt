@@ -1,5 +1,4 @@
 -- `catalogue::entries::entry_twice` meets its contract: an entry stands twice exactly if its name does.
-use borrow.Author.Rules.{rules}
 use native.Mathlib.Omega.{arith}
 use mathlib.Core.Path.{sym}
 use lib.Seq.{length-take-le}

@@ -1,10 +1,7 @@
 -- `catalogue::entries::stands_twice` meets its contract. The loop's invariant: no number passed stands before its place too. The measure is the places left.
 use borrow.Author.Rules.{rules}
-use Prim.Native.Nat.{ℕ, ◌-◌, ◌≤◌, ◌<◌}
-use lib.ListN.{length}
 use borrow.Author.Count.{below_more}
 use Rattle.basis.proofs.Answers.{holds, fails}
-use Rattle.catalogue.specs.Parts.{StandsBefore}
 use Rattle.catalogue.proofs.Searches.{found, none_found}
 use Rattle.catalogue.proofs.entries.stands_twice.Goals as goal
 

@@ -1,5 +1,4 @@
 -- `catalogue::fields::slot_field` meets its contract: within the table it reads the number, and past the table's end a list has 0.
-use borrow.Author.Rules.{rules}
 use native.Mathlib.Omega.{arith}
 use lib.ListN.{get_or-eq_default}
 use mathlib.Core.Path.{sym}

@@ -1,11 +1,8 @@
 -- `catalogue::index::index_slots` meets its contract. The loop's invariant: the list has the sets of the slots passed, each read, and 0 from there on. The measure is
 -- the slots left.
-use mathlib.Core.Path.{◌≡◌}
 use Prim.Native.Nat.{◌-◌, ◌≤◌}
-use native.Mathlib.Omega.{arith}
-use Rattle.catalogue.specs.Tables.{slot_count}
 use Rattle.catalogue.specs.Parts.{tables}
-use Rattle.catalogue.proofs.Sets.{Filled, filled_none, filled_one_more, filled_all, one_unread, slot_read, slot_unread}
+use Rattle.catalogue.proofs.Sets.{Filled}
 use Rattle.catalogue.proofs.index.index_slots.Given as goal
 
 abbrev pub invariant-loop-s : goal.invariant-loop-s

@@ -1,5 +1,4 @@
 -- `catalogue::index::marked` meets its contract: a set with one member more, or the same set.
-use borrow.Author.Rules.{rules}
 use mathlib.Core.Path.{◌≡◌}
 use native.Mathlib.Omega.{arith}
 use Rattle.catalogue.specs.Tables.{package_of}

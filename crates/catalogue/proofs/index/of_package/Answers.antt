@@ -1,11 +1,10 @@
 -- `catalogue::index::of_package` meets its contract. The loop's invariant: the set has the entries of the package among those passed. The measure is the entries left.
 use borrow.Author.Rules.{rules}
 use mathlib.Core.Path.{◌≡◌}
-use Prim.Native.Nat.{◌-◌, ◌/◌, ◌≤◌}
+use Prim.Native.Nat.{◌/◌}
 use native.Mathlib.Omega.{arith}
 use lib.ListN.{length}
 use Rattle.catalogue.specs.Parts.{entries_alone}
-use Rattle.catalogue.specs.Steps.{OfPackage}
 use Rattle.catalogue.proofs.Sets.{package_none, package_more}
 use Rattle.catalogue.proofs.index.of_package.Goals as goal
 

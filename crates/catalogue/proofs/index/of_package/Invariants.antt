@@ -1,11 +1,7 @@
 -- `catalogue::index::of_package` meets its contract. The loop's invariant: the set has the entries of the package among those passed. The measure is the entries left.
-use mathlib.Core.Path.{◌≡◌}
-use Prim.Native.Nat.{◌-◌, ◌/◌, ◌≤◌}
-use native.Mathlib.Omega.{arith}
-use lib.ListN.{length}
+use Prim.Native.Nat.{◌-◌, ◌≤◌}
 use Rattle.catalogue.specs.Parts.{entries_alone}
 use Rattle.catalogue.specs.Steps.{OfPackage}
-use Rattle.catalogue.proofs.Sets.{package_none, package_more}
 use Rattle.catalogue.proofs.index.of_package.Given as goal
 
 abbrev pub invariant-loop-e : goal.invariant-loop-e

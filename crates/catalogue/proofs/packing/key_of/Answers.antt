@@ -1,5 +1,4 @@
 -- `catalogue::packing::key_of` meets its contract: the fields that are read are those of the entry's version.
-use borrow.Author.Rules.{rules}
 use native.Mathlib.Omega.{arith}
 use Rattle.catalogue.proofs.packing.key_of.Goals as goal
 

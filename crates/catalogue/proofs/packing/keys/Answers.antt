@@ -1,10 +1,6 @@
 -- `catalogue::packing::keys` meets its contract. The loop's invariant: the list holds the key of each entry passed. The measure is the entries left.
 use borrow.Author.Rules.{rules}
 use native.Mathlib.Omega.{arith}
-use mathlib.Core.Path.{◌≡◌}
-use Prim.Native.Nat.{ℕ, ◌-◌, ◌≤◌, ◌<◌}
-use lib.ListN.{length, get_or}
-use Rattle.catalogue.specs.Parts.{entries_alone, entry_key}
 use Rattle.catalogue.proofs.Searches.{filled_more}
 use Rattle.catalogue.proofs.packing.keys.Goals as goal
 

@@ -1,5 +1,4 @@
 -- `catalogue::packing::name_of` meets its contract: a version's key is below 2 ^ 48, so the name fits 64 bits.
-use borrow.Author.Rules.{rules}
 use native.Mathlib.Omega.{arith}
 use Rattle.catalogue.specs.Parts.{entries_alone}
 use Rattle.catalogue.proofs.Names.{version_below}

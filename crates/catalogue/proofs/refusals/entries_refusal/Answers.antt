@@ -1,5 +1,4 @@
 -- `catalogue::refusals::entries_refusal` meets its contract: each row in turn; entries that are not misshapen are at most 64.
-use borrow.Author.Rules.{rules}
 use Rattle.basis.proofs.Answers.{fails}
 use Rattle.catalogue.proofs.Order.{none, first, next, at_most_64}
 use Rattle.catalogue.specs.Parts.{entries_alone}

@@ -1,5 +1,4 @@
 -- `catalogue::refusals::owners_refusal` meets its contract: each row in turn.
-use borrow.Author.Rules.{rules}
 use Rattle.catalogue.proofs.Order.{none, first, next}
 use Rattle.catalogue.proofs.refusals.owners_refusal.Goals as goal
 

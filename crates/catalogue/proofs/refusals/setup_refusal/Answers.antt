@@ -1,5 +1,4 @@
 -- `catalogue::refusals::setup_refusal` meets its contract: the rows on the settings, then those on the objectives, then those on the sizes.
-use borrow.Author.Rules.{rules}
 use Rattle.catalogue.proofs.Order.{numbered_before, numbered_after}
 use Rattle.catalogue.proofs.refusals.setup_refusal.Goals as goal
 

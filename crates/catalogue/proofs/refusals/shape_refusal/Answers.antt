@@ -1,5 +1,4 @@
 -- `catalogue::refusals::shape_refusal` meets its contract: the rows on the entries, then those on the owners, then those on the marks.
-use borrow.Author.Rules.{rules}
 use Rattle.catalogue.proofs.Order.{numbered_before, numbered_after}
 use Rattle.catalogue.proofs.refusals.shape_refusal.Goals as goal
 

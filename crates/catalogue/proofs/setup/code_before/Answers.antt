@@ -1,8 +1,5 @@
 -- `catalogue::setup::code_before` meets its contract. The loop's invariant: no code passed is the one at place i. The measure is the places left.
 use borrow.Author.Rules.{rules}
-use mathlib.Core.Path.{◌≡◌}
-use Prim.Native.Nat.{ℕ, ◌-◌, ◌≤◌, ◌<◌}
-use lib.ListN.{get_or}
 use borrow.Author.Count.{below_more}
 use Rattle.catalogue.proofs.Searches.{found, none_found}
 use Rattle.catalogue.proofs.setup.code_before.Goals as goal

@@ -2,8 +2,6 @@
 use mathlib.Core.Path.{◌≡◌}
 use Prim.Native.Nat.{ℕ, ◌-◌, ◌≤◌, ◌<◌}
 use lib.ListN.{get_or}
-use borrow.Author.Count.{below_more}
-use Rattle.catalogue.proofs.Searches.{found, none_found}
 use Rattle.catalogue.proofs.setup.code_before.Given as goal
 
 abbrev pub invariant-loop-j : goal.invariant-loop-j

@@ -1,10 +1,7 @@
 -- `catalogue::setup::objective_twice` meets its contract. The loop's invariant: no code passed stands before its place too. The measure is the places left.
 use Prim.Native.Nat.{ℕ, ◌-◌, ◌≤◌, ◌<◌}
 use lib.ListN.{length}
-use borrow.Author.Count.{below_more}
-use Rattle.basis.proofs.Answers.{holds, fails}
 use Rattle.catalogue.specs.Parts.{StandsBefore}
-use Rattle.catalogue.proofs.Searches.{found, none_found}
 use Rattle.catalogue.proofs.setup.objective_twice.Given as goal
 
 abbrev pub invariant-loop-i : goal.invariant-loop-i

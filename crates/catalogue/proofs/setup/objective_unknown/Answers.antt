@@ -1,8 +1,6 @@
 -- `catalogue::setup::objective_unknown` meets its contract. The loop's invariant: no code passed is above 2. The measure is the codes left.
 use borrow.Author.Rules.{rules}
 use native.Mathlib.Omega.{arith}
-use Prim.Native.Nat.{ℕ, ◌-◌, ◌≤◌, ◌<◌}
-use lib.ListN.{length, get_or}
 use borrow.Author.Count.{below_more}
 use Rattle.catalogue.proofs.Searches.{found, none_found}
 use Rattle.catalogue.proofs.setup.objective_unknown.Goals as goal

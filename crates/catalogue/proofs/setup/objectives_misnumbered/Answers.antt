@@ -1,5 +1,4 @@
 -- `catalogue::setup::objectives_misnumbered` meets its contract: each test is one of the condition's two cases.
-use borrow.Author.Rules.{rules}
 use native.Mathlib.Omega.{arith}
 use mathlib.Core.Logic.{inl, inr}
 use Rattle.basis.proofs.Answers.{answer_yes, answer_no}

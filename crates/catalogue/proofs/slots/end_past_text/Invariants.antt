@@ -1,11 +1,8 @@
 -- `catalogue::slots::end_past_text` meets its contract. The loop's invariant: no end passed is past the text. The measure is the slots left.
 use Prim.Native.Nat.{ℕ, ◌-◌, ◌≤◌, ◌<◌}
 use lib.ListN.{length}
-use native.Mathlib.Omega.{arith}
-use borrow.Author.Count.{below_more}
 use Rattle.catalogue.specs.Tables.{end_of}
 use Rattle.catalogue.specs.Parts.{slots_alone}
-use Rattle.catalogue.proofs.Searches.{found, none_found}
 use Rattle.catalogue.proofs.slots.end_past_text.Given as goal
 
 abbrev pub invariant-loop-s : goal.invariant-loop-s

@@ -1,10 +1,7 @@
 -- `catalogue::slots::marks_cross` meets its contract. The loop's invariant: no start passed is after its end. The measure is the slots left.
 use borrow.Author.Rules.{rules}
-use Prim.Native.Nat.{ℕ, ◌-◌, ◌≤◌, ◌<◌}
 use native.Mathlib.Omega.{arith}
 use borrow.Author.Count.{below_more}
-use Rattle.catalogue.specs.Tables.{start_of, end_of}
-use Rattle.catalogue.specs.Parts.{slots_alone}
 use Rattle.catalogue.proofs.Searches.{found, none_found}
 use Rattle.catalogue.proofs.slots.marks_cross.Goals as goal
 

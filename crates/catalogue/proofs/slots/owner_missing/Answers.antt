@@ -1,11 +1,7 @@
 -- `catalogue::slots::owner_missing` meets its contract. The loop's invariant: the owner of each slot passed is an entry. The measure is the slots left.
 use borrow.Author.Rules.{rules}
-use mathlib.Core.List.{[]}
-use Prim.Native.Nat.{ℕ, ◌-◌, ◌≤◌, ◌<◌}
 use native.Mathlib.Omega.{arith}
 use borrow.Author.Count.{below_more}
-use Rattle.catalogue.specs.Tables.{owner_of}
-use Rattle.catalogue.specs.Parts.{tables}
 use Rattle.catalogue.proofs.Searches.{found, none_found}
 use Rattle.catalogue.proofs.slots.owner_missing.Goals as goal
 

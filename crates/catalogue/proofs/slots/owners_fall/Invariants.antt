@@ -1,12 +1,5 @@
 -- `catalogue::slots::owners_fall` meets its contract. The loop's invariant: no owner passed is above the next. The measure is the slots left.
-use mathlib.Core.Path.{◌≡◌, ap}
-use mathlib.Core.List.{List}
-use Prim.Native.Nat.{ℕ, suc, ◌+◌, ◌-◌, ◌*◌, ◌≤◌, ◌<◌}
-use lib.ListN.{get_or}
-use native.Mathlib.Numerals.{add-one}
-use native.Mathlib.Omega.{arith}
-use borrow.Author.Count.{below_more}
-use Rattle.basis.proofs.Answers.{answer_yes, answer_no}
+use Prim.Native.Nat.{ℕ, suc, ◌-◌, ◌≤◌, ◌<◌}
 use Rattle.catalogue.specs.Tables.{owner_of}
 use Rattle.catalogue.specs.Parts.{slots_alone}
 use Rattle.catalogue.proofs.slots.owners_fall.Given as goal

@@ -1,8 +1,7 @@
 -- `catalogue::spans::past` meets its contract: the owners from `from` to `s` are below `e`.
 use borrow.Author.Rules.{rules}
-use Prim.Native.Nat.{ℕ, ◌*◌, ◌-◌, ◌≤◌, ◌<◌}
+use Prim.Native.Nat.{◌*◌}
 use native.Mathlib.Omega.{arith}
-use Rattle.catalogue.specs.Spans.{owner_in}
 use Rattle.catalogue.proofs.Spanned.{passed_more}
 use Rattle.catalogue.proofs.spans.past.Goals as goal
 

@@ -1,8 +1,6 @@
 -- `catalogue::spans::past` meets its contract: the owners from `from` to `s` are below `e`.
-use Prim.Native.Nat.{ℕ, ◌*◌, ◌-◌, ◌≤◌, ◌<◌}
-use native.Mathlib.Omega.{arith}
+use Prim.Native.Nat.{ℕ, ◌-◌, ◌≤◌, ◌<◌}
 use Rattle.catalogue.specs.Spans.{owner_in}
-use Rattle.catalogue.proofs.Spanned.{passed_more}
 use Rattle.catalogue.proofs.spans.past.Given as goal
 
 abbrev pub invariant-loop-s : goal.invariant-loop-s

@@ -1,13 +1,9 @@
 -- `catalogue::spans::spans` meets its contract: the spans of the entries before `e` are stored, as far as owners never fall.
-use borrow.Author.Rules.{rules}
-use mathlib.Core.Path.{◌≡◌, ◌∙◌}
-use Prim.Native.Nat.{ℕ, ◌-◌, ◌/◌, ◌≤◌}
+use mathlib.Core.Path.{◌∙◌}
+use Prim.Native.Nat.{ℕ}
 use native.Mathlib.Omega.{arith}
-use lib.ListN.{length, length-set, length-replicate}
-use Rattle.catalogue.specs.Spans.{Rising}
-use Rattle.catalogue.proofs.Spanned.{SpansTo, spans_none, spans_more, spans_end}
-use Rattle.catalogue.proofs.spans.past.Reads as past-reads
-use Rattle.catalogue.proofs.spans.spans.Reads as reads
+use lib.ListN.{length-set, length-replicate}
+use Rattle.catalogue.proofs.Spanned.{spans_none, spans_more, spans_end}
 use Rattle.catalogue.proofs.spans.spans.Goals as goal
 
 pub loop-e-init : goal.loop-e-init

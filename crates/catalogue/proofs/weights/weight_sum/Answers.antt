@@ -2,12 +2,10 @@
 -- entries left.
 use borrow.Author.Rules.{rules}
 use mathlib.Core.Path.{◌≡◌}
-use Prim.Native.Nat.{◌+◌, ◌-◌, ◌*◌, ◌/◌, ◌≤◌}
+use Prim.Native.Nat.{◌+◌, ◌*◌, ◌/◌}
 use native.Mathlib.Numerals.{add-one}
 use native.Mathlib.Omega.{arith}
 use lib.ListN.{length}
-use Rattle.basis.specs.Sum.{sum}
-use Rattle.catalogue.specs.Tables.{weight_of}
 use Rattle.catalogue.specs.Parts.{entries_alone}
 use Rattle.catalogue.proofs.Totals.{weights_fit}
 use Rattle.catalogue.proofs.weights.weight_sum.Goals as goal

@@ -1,14 +1,10 @@
 -- `catalogue::weights::weight_sum` meets its contract. The loop's invariant: the total is the sum of the weights passed, at most 65535 for each. The measure is the
 -- entries left.
 use mathlib.Core.Path.{◌≡◌}
-use Prim.Native.Nat.{◌+◌, ◌-◌, ◌*◌, ◌/◌, ◌≤◌}
-use native.Mathlib.Numerals.{add-one}
-use native.Mathlib.Omega.{arith}
-use lib.ListN.{length}
+use Prim.Native.Nat.{◌-◌, ◌≤◌}
 use Rattle.basis.specs.Sum.{sum}
 use Rattle.catalogue.specs.Tables.{weight_of}
 use Rattle.catalogue.specs.Parts.{entries_alone}
-use Rattle.catalogue.proofs.Totals.{weights_fit}
 use Rattle.catalogue.proofs.weights.weight_sum.Given as goal
 
 abbrev pub invariant-loop-e : goal.invariant-loop-e

@@ -1,5 +1,4 @@
 -- `constraint::bound::bound` meets its contract: what opens a bound and what closes it make one, and the keys in its range are those that satisfy it.
-use borrow.Author.Rules.{rules}
 use mathlib.Core.Path.{refl}
 use Prim.Native.Nat.{◌+◌}
 use native.Mathlib.Omega.{arith}
@@ -23,7 +22,7 @@ sign_read c = opening_read c.signed.ensures c.in-Read.is
 all_read : (c : In-Read-three)
     → Begins (Bounded (bound_of c.in-Read.sign) c.in-Read-three.version) c.args.rest.now (c.in-Read.opened + c.in-Read-three.closed)
 all_read c =
-    bound_read (sign_read {-?place In-Read-})
+    bound_read (opening_read c.signed.ensures c.in-Read.is)
     (simp part_from at (triple_read c.three.ensures c.in-Read-three.is))
 
 pub returns-in_default : goal.returns-in_default

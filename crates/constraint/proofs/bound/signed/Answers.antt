@@ -1,5 +1,4 @@
 -- `constraint::bound::signed` meets its contract: each sign was compared with what the text begins with.
-use borrow.Author.Rules.{rules}
 use mathlib.Core.Path.{refl}
 use Rattle.constraint.specs.Reader.{ReadsOpening}
 use Rattle.constraint.proofs.Beginnings.{agreed_word, agreed_less}

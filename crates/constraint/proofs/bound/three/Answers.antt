@@ -1,5 +1,4 @@
 -- `constraint::bound::three` meets its contract: each number is read where the one before it ends, and the text fixes where that is.
-use borrow.Author.Rules.{rules}
 use mathlib.Core.Path.{refl}
 use Prim.Native.Nat.{◌+◌}
 use native.Mathlib.Omega.{arith}
@@ -24,7 +23,7 @@ second_read c = simp part_from at (field_read c.ended-2.ensures c.in-Read-ended.
 all_read : (c : In-Read-ended-2)
     → Begins (Closed (record { major = c.in-Read.major; minor = c.in-Read-ended.minor; patch = c.in-Read-ended-2.patch })) c.args.rest.now (c.in-Read.first + c.in-Read-ended.second + c.in-Read-ended-2.third)
 all_read c =
-    closed_read (first_read {-?place In-Read-}) (second_read {-?place In-Read-ended-})
+    closed_read (field_read c.ended.ensures c.in-Read.is) (simp part_from at (field_read c.ended-2.ensures c.in-Read-ended.is))
     (simp part_from at (field_read c.ended-3.ensures c.in-Read-ended-2.is))
 
 pub returns-in_default : goal.returns-in_default

@@ -1,5 +1,4 @@
 -- `constraint::keys::all` meets its contract: the set is 2 ^ count - 1.
-use borrow.Author.Rules.{rules}
 use native.Mathlib.Omega.{arith}
 use lib.Pow.{pow_pos}
 use Rattle.bitset.proofs.Made.{one_shifted}

@@ -1,10 +1,7 @@
 -- `constraint::keys::chosen` meets its contract. The loop's invariant: the set has those of the first e keys that lie in the range. The measure is the
 -- number of keys that are left.
-use borrow.Author.Rules.{rules}
-use Prim.Native.Nat.{◌-◌, ◌≤◌}
 use native.Mathlib.Omega.{arith}
-use lib.ListN.{length}
-use Rattle.constraint.proofs.Picked.{ChosenOf, chosen_none, chosen_more, chosen_all}
+use Rattle.constraint.proofs.Picked.{chosen_none, chosen_more, chosen_all}
 use Rattle.constraint.proofs.keys.chosen.Goals as goal
 
 pub loop-e-init : goal.loop-e-init

@@ -1,9 +1,8 @@
 -- `constraint::keys::chosen` meets its contract. The loop's invariant: the set has those of the first e keys that lie in the range. The measure is the
 -- number of keys that are left.
 use Prim.Native.Nat.{◌-◌, ◌≤◌}
-use native.Mathlib.Omega.{arith}
 use lib.ListN.{length}
-use Rattle.constraint.proofs.Picked.{ChosenOf, chosen_none, chosen_more, chosen_all}
+use Rattle.constraint.proofs.Picked.{ChosenOf}
 use Rattle.constraint.proofs.keys.chosen.Given as goal
 
 abbrev pub invariant-loop-e : goal.invariant-loop-e

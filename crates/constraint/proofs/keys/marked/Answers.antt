@@ -1,5 +1,4 @@
 -- `constraint::keys::marked` meets its contract: a key in the range is one member more, another changes nothing.
-use borrow.Author.Rules.{rules}
 use native.Mathlib.Omega.{arith}
 use Rattle.constraint.proofs.Picked.{marks_none, marks_with}
 use Rattle.constraint.proofs.keys.marked.Goals as goal

@@ -1,5 +1,4 @@
 -- `constraint::number::ended` meets its contract, by what the longest number tells of every number that the byte ends.
-use borrow.Author.Rules.{rules}
 use mathlib.Core.Path.{refl}
 use native.Mathlib.Omega.{arith}
 use Rattle.constraint.specs.Reader.{ReadsField}

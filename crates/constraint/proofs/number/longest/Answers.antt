@@ -1,9 +1,6 @@
 -- `constraint::number::longest` meets its contract.
-use borrow.Author.Rules.{rules}
-use Prim.Native.Nat.{◌-◌}
 use native.Mathlib.Omega.{arith}
-use lib.ListN.{length}
-use Rattle.constraint.proofs.Numbers.{Begun, begun_none, begun_on, longest_end, longest_all}
+use Rattle.constraint.proofs.Numbers.{begun_none, begun_on, longest_end, longest_all}
 use Rattle.constraint.proofs.number.longest.Goals as goal
 
 pub loop-used-init : goal.loop-used-init

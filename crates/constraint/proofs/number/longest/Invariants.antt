@@ -1,8 +1,7 @@
 -- `constraint::number::longest` meets its contract.
 use Prim.Native.Nat.{◌-◌}
-use native.Mathlib.Omega.{arith}
 use lib.ListN.{length}
-use Rattle.constraint.proofs.Numbers.{Begun, begun_none, begun_on, longest_end, longest_all}
+use Rattle.constraint.proofs.Numbers.{Begun}
 use Rattle.constraint.proofs.number.longest.Given as goal
 
 abbrev pub invariant-loop-used : goal.invariant-loop-used

@@ -1,5 +1,4 @@
 -- `constraint::range::last_of` meets its contract, by the three cases of `^`.
-use borrow.Author.Rules.{rules}
 use native.Mathlib.Omega.{arith}
 use Rattle.constraint.proofs.Packed.{Small, caret_major, caret_minor, caret_patch}
 use Rattle.constraint.proofs.range.last_of.Goals as goal

@@ -1,5 +1,4 @@
 -- `constraint::range::span` meets its contract, by the law of each bound's range.
-use borrow.Author.Rules.{rules}
 use native.Mathlib.Omega.{arith}
 use Rattle.constraint.proofs.Packed.{Small, spans_equal, spans_at_most, spans_at_least, spans_caret}
 use Rattle.constraint.proofs.range.span.Goals as goal

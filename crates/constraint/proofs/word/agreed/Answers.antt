@@ -1,9 +1,6 @@
 -- `constraint::word::agreed` meets its contract. The loop's invariant: the two agree in the first i bytes. The measure is what is left of the word.
-use borrow.Author.Rules.{rules}
-use mathlib.Core.Path.{◌≡◌, refl}
-use Prim.Native.Nat.{◌≤◌, ◌-◌}
+use mathlib.Core.Path.{refl}
 use native.Mathlib.Omega.{arith}
-use lib.ListN.{length, take}
 use Rattle.constraint.proofs.Texts.{take_more}
 use Rattle.constraint.proofs.word.agreed.Goals as goal
 

@@ -1,9 +1,7 @@
 -- `constraint::word::agreed` meets its contract. The loop's invariant: the two agree in the first i bytes. The measure is what is left of the word.
-use mathlib.Core.Path.{◌≡◌, refl}
+use mathlib.Core.Path.{◌≡◌}
 use Prim.Native.Nat.{◌≤◌, ◌-◌}
-use native.Mathlib.Omega.{arith}
 use lib.ListN.{length, take}
-use Rattle.constraint.proofs.Texts.{take_more}
 use Rattle.constraint.proofs.word.agreed.Given as goal
 
 abbrev pub invariant-loop-i : goal.invariant-loop-i
