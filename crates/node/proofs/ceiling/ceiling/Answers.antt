@@ -1,8 +1,6 @@
 -- `node::ceiling::ceiling` meets its contract.
-use borrow.Author.Rules.{rules}
 use mathlib.Core.Path.{◌≡◌, sym}
 use native.Mathlib.Omega.{arith}
-use borrow.Author.Tests.{not-true, not-false}
 use borrow.Kind.Array.{good_length, e_int}
 use mir.Syntax.{w8}
 use lib.ListN.{length}
@@ -10,17 +8,13 @@ use lib.Seq.{length-take-le}
 use Rattle.node.proofs.Slotted.{tabled_slotted}
 use Rattle.node.proofs.Lower.{ceils_bound, ceils_tied, ceils_past}
 use Rattle.node.proofs.Told.{said_no}
-use Rattle.price.proofs.worths.worth.Reads as worth-reads
-use Rattle.node.proofs.ceiling.ceiling.Reads as reads
-use Rattle.node.proofs.ceiling.low_table.Reads as low-table-reads
-use Rattle.node.proofs.order.earlier.Reads as earlier-reads
 use Rattle.node.proofs.ceiling.ceiling.Goals as goal
 
 pub returns-then-not-found : goal.returns-then-not-found
 returns-then-not-found c = (
   omega (arith, c.worth-top.ensures.1),
   λ entries objectives fits settings scaled few light costed.
-      rw c.worth-top.ensures.0 (ceils_bound _ _ scaled (record { entries = few; weight = light }) _ costed _ _ _ (not-true _ c.if-not-found.true)),
+      rw c.worth-top.ensures.0 (ceils_bound _ _ scaled (record { entries = few; weight = light }) _ costed _ _ _ c.if-not-found.true),
 )
 
 pub slice_bounds-earlier-end : goal.slice_bounds-earlier-end
@@ -32,7 +26,7 @@ pub returns-then-earlier : goal.returns-then-earlier
 returns-then-earlier c = (
   omega (arith, c.worth-top.ensures.1),
   λ entries objectives fits settings scaled few light costed.
-      rw c.worth-top.ensures.0 (ceils_tied _ _ scaled (record { entries = few; weight = light }) _ costed _ _ _ (not-false _ c.if-not-found.false)),
+      rw c.worth-top.ensures.0 (ceils_tied _ _ scaled (record { entries = few; weight = light }) _ costed _ _ _ c.if-not-found.false),
 )
 
 pub returns : goal.returns
@@ -41,7 +35,7 @@ returns c =
       omega (arith, c.worth-top.ensures.1),
       λ entries objectives fits settings scaled few light costed.
           rw c.worth-top.ensures.0
-          (ceils_past _ _ scaled (record { entries = few; weight = light }) _ costed _ _ _ (not-false _ c.if-not-found.false) _
+          (ceils_past _ _ scaled (record { entries = few; weight = light }) _ costed _ _ _ c.if-not-found.false _
           (tabled_slotted entries _ settings objectives fits) c.low_table-table.result c.low_table-table.ensures (omega (arith, c.requires.0, long))
           (λ h. said_no c.earlier.ensures c.if-earlier.false (rw c.requires.1.0 h))),
     )

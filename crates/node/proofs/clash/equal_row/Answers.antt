@@ -1,12 +1,10 @@
 -- `node::clash::equal_row` meets its contract: of the entries before `f`, the row holds exactly those whose field `k` is that of `e`.
 use borrow.Author.Rules.{rules}
-use mathlib.Core.Logic.{⊎_elim}
-use mathlib.Core.Path.{◌≡◌, sym, ◌∙◌}
-use Prim.Native.Nat.{◌≤◌, ◌-◌}
+use mathlib.Core.Path.{sym, ◌∙◌}
 use native.Mathlib.Omega.{arith}
-use Rattle.plan.specs.Pairs.{field}
-use Rattle.node.proofs.Clashing.{Upto, upto_none, upto_with, upto_same, upto_end}
+use Rattle.node.proofs.Clashing.{upto_none, upto_with, upto_same, upto_end}
 use Rattle.node.proofs.clash.equal_row.Goals as goal
+use Rattle.node.proofs.clash.equal_row.Goals.{then-entries-f, else-entries-f}
 
 pub loop-f-init : goal.loop-f-init
 loop-f-init c = (search rules, upto_none _)
@@ -35,10 +33,13 @@ loop-f-smaller c = omega arith
 pub loop-f-preserved : goal.loop-f-preserved
 loop-f-preserved c = (
   omega arith,
-  ⊎_elim
-      (λ w. rw w.2 (upto_with c.loop-f.invariant.1 (omega (arith, c.placed-count.ensures.0)) w.1.ensures (w.0.taken ∙ c.entry_field-value.ensures)))
-      (λ w. rw w.1 (upto_same c.loop-f.invariant.1 (λ same. w.0.left (same ∙ sym c.entry_field-value.ensures))))
-      c.if-entries-f.branch,
+  elim c.if-entries-f.branch [
+    | then-entries-f w ↦
+        rw w.row-is
+        (upto_with c.loop-f.invariant.1 (omega (arith, c.placed-count.ensures.0)) w.with-row.ensures (w.if-entries-f.true ∙ c.entry_field-value.ensures))
+    | else-entries-f w ↦
+        rw w.row-is (upto_same c.loop-f.invariant.1 (λ same. w.if-entries-f.false (same ∙ sym c.entry_field-value.ensures)))
+  ],
 )
 
 pub returns : goal.returns

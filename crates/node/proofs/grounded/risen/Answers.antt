@@ -1,10 +1,7 @@
 -- `node::grounded::risen` meets its contract. The loop's invariant: unless something is found, each entry passed is held up. The measure is the number of entries left.
-use borrow.Author.Rules.{rules}
 use Prim.Native.Nat.{◌+◌}
 use native.Mathlib.Omega.{arith}
-use borrow.Author.Tests.{not-false}
-use Rattle.bitset.specs.Bits.{count}
-use Rattle.node.proofs.Grounding.{Rising, rising_none, left_below, left_less, rising_held, rising_found, rising_all}
+use Rattle.node.proofs.Grounding.{rising_none, left_below, left_less, rising_held, rising_found, rising_all}
 use Rattle.node.proofs.Told.{said_yes}
 use Rattle.node.proofs.grounded.risen.Goals as goal
 
@@ -47,7 +44,7 @@ loop-rest-smaller c =
 
 pub loop-rest-preserved : goal.loop-rest-preserved
 loop-rest-preserved c =
-    rising_held c.loop-rest.invariant c.highest-e.ensures c.without-rest.ensures (said_yes c.held.ensures (not-false _ c.if-not-held.false))
+    rising_held c.loop-rest.invariant c.highest-e.ensures c.without-rest.ensures (said_yes c.held.ensures c.if-not-held.false)
 
 pub returns : goal.returns
 returns c = rising_all c.loop-rest-test.false c.loop-rest.invariant

@@ -1,13 +1,7 @@
 -- `node::narrow::narrow` meets its contract: the rounds so far have dropped nothing that a plan that is sought has.
-use borrow.Author.Rules.{rules}
 use mathlib.Core.Path.{refl}
-use Prim.Native.Nat.{◌-◌}
 use native.Mathlib.Omega.{arith}
-use Rattle.catalogue.specs.Survey.{tabled}
-use Rattle.node.proofs.Narrowing.{Rounded, rounded_on, rounded_from, narrowed_none}
-use Rattle.node.proofs.narrow.narrow.Reads as reads
-use Rattle.node.proofs.narrow.once.Reads as once-reads
-use Rattle.node.proofs.narrow.same.Reads as same_Reads
+use Rattle.node.proofs.Narrowing.{rounded_on, rounded_from, narrowed_none}
 use Rattle.node.proofs.narrow.narrow.Goals as goal
 
 pub loop-round-init : goal.loop-round-init
@@ -15,18 +9,25 @@ loop-round-init c given ready = narrowed_none refl refl refl
 
 pub once-next-requires : goal.once-next-requires
 once-next-requires c =
-    record { bounded = λ e h. omega (arith, c.requires.1.spans.within e h, c.requires.0.slots); few_slots = c.requires.0.slots; one_each = c.requires.0.plan_sized; rows = c.requires.1.alikes.sized; moderate = c.requires.1.moderate }
+    record {
+      bounded = λ e h. omega (arith, c.requires.fact_2.spans.within e h, c.requires.fact_1.slots);
+      few_slots = c.requires.fact_1.slots;
+      one_each = c.requires.fact_1.plan_sized;
+      rows = c.requires.fact_2.alikes.sized;
+      moderate = c.requires.fact_2.moderate;
+    }
 
 pub returns-then-not-alive : goal.returns-then-not-alive
 returns-then-not-alive c =
-    rounded_from refl refl refl c.requires.0 (rounded_on c.loop-round.invariant (λ given ready. c.once-next.ensures c.args.entries.now c.args.objectives.now c.args.fits.now c.args.past.now given ready c.requires.1))
-
-pub same-requires : goal.same-requires
-same-requires c = tt
+    rounded_from refl refl refl c.requires.fact_1
+    (rounded_on c.loop-round.invariant
+    (λ given ready. c.once-next.ensures c.args.entries.now c.args.objectives.now c.args.fits.now c.args.past.now given ready c.requires.fact_2))
 
 pub returns-then-same : goal.returns-then-same
 returns-then-same c =
-    rounded_from refl refl refl c.requires.0 (rounded_on c.loop-round.invariant (λ given ready. c.once-next.ensures c.args.entries.now c.args.objectives.now c.args.fits.now c.args.past.now given ready c.requires.1))
+    rounded_from refl refl refl c.requires.fact_1
+    (rounded_on c.loop-round.invariant
+    (λ given ready. c.once-next.ensures c.args.entries.now c.args.objectives.now c.args.fits.now c.args.past.now given ready c.requires.fact_2))
 
 pub overflow_add-round : goal.overflow_add-round
 overflow_add-round c = omega arith
@@ -36,7 +37,8 @@ loop-round-smaller c = omega arith
 
 pub loop-round-preserved : goal.loop-round-preserved
 loop-round-preserved c =
-    rounded_on c.loop-round.invariant (λ given ready. c.once-next.ensures c.args.entries.now c.args.objectives.now c.args.fits.now c.args.past.now given ready c.requires.1)
+    rounded_on c.loop-round.invariant
+    (λ given ready. c.once-next.ensures c.args.entries.now c.args.objectives.now c.args.fits.now c.args.past.now given ready c.requires.fact_2)
 
 pub returns : goal.returns
-returns c = rounded_from refl refl refl c.requires.0 c.loop-round.invariant
+returns c = rounded_from refl refl refl c.requires.fact_1 c.loop-round.invariant

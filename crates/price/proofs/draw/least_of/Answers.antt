@@ -1,20 +1,13 @@
 -- `price::draw::least_of` meets its contract: the least so far is no more than the price of any member passed.
-use borrow.Author.Rules.{rules}
-use Prim.Native.Nat.{◌≤◌, ◌<◌}
-use lib.ListN.{get_or}
+use Prim.Native.Nat.{◌<◌}
 use Rattle.bitset.proofs.Sets.{member_below}
-use Rattle.plan.proofs.MemberWalk.{Walked, walk_start, walk_end, walk_less, walk_on}
+use Rattle.plan.proofs.MemberWalk.{walk_start, walk_end, walk_less, walk_on}
 use Rattle.price.proofs.Drawing.{walk_weaker}
 use native.Mathlib.Omega.{arith}
-use Rattle.bitset.specs.Bits.{count}
-use Rattle.bitset.proofs.lowest.Reads as lowest-reads
-use Rattle.bitset.proofs.without.Reads as without-reads
-use Rattle.price.proofs.draw.least_of.Reads as reads
-use Rattle.price.proofs.draw.lower.Reads as lower-reads
-use Rattle.price.proofs.draw.least_of.Goals.{After-lowest-e, After-way_told-1}
+use Rattle.price.proofs.draw.least_of.Goals.{After-lowest-e}
 use Rattle.price.proofs.draw.least_of.Goals as goal
 
-small : (c : After-lowest-e invariant_loop decreases_loop) → c.lowest-e.result < 64
+small : (c : After-lowest-e) → c.lowest-e.result < 64
 small c =
     member_below 64 _ _ c.loop-rest.invariant.fits (c.lowest-e.ensures.some c.loop-rest-test.true).member
 
@@ -28,7 +21,7 @@ pub offset_bounds-price-e : goal.offset_bounds-price-e
 offset_bounds-price-e c = omega (arith, small (goal.at.offset_bounds-price-e c).After-lowest-e)
 
 pub bounds-price-e : goal.bounds-price-e
-bounds-price-e c = small (goal.at.bounds-price-e c).After-way_told-1
+bounds-price-e c = small (goal.at.bounds-price-e c).After-lowest-e
 
 pub loop-rest-smaller : goal.loop-rest-smaller
 loop-rest-smaller c =

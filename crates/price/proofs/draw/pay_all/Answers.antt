@@ -1,17 +1,12 @@
 -- `price::draw::pay_all` meets its contract: the price of each member passed is drawn.
-use borrow.Author.Rules.{rules}
 use Rattle.plan.proofs.MemberWalk.{walk_less}
-use Rattle.price.proofs.Drawing.{Emptying, emptying_start, emptying_small, emptying_fits, emptying_on}
+use Rattle.price.proofs.Drawing.{emptying_start, emptying_small, emptying_fits, emptying_on}
 use Prim.Native.Nat.{◌<◌}
 use native.Mathlib.Omega.{arith}
-use Rattle.bitset.specs.Bits.{count}
-use Rattle.bitset.proofs.lowest.Reads as lowest-reads
-use Rattle.bitset.proofs.without.Reads as without-reads
-use Rattle.price.proofs.draw.pay_all.Reads as reads
-use Rattle.price.proofs.draw.pay_all.Goals.{After-lowest-e, After-way_told-1}
+use Rattle.price.proofs.draw.pay_all.Goals.{After-lowest-e}
 use Rattle.price.proofs.draw.pay_all.Goals as goal
 
-small : (c : After-lowest-e invariant_loop decreases_loop) → c.lowest-e.result < 64
+small : (c : After-lowest-e) → c.lowest-e.result < 64
 small c = emptying_small c.loop-rest.invariant c.loop-rest-test.true c.lowest-e.ensures c.requires
 
 pub loop-rest-init : goal.loop-rest-init
@@ -24,16 +19,16 @@ pub offset_bounds-price-i : goal.offset_bounds-price-i
 offset_bounds-price-i c = omega (arith, small (goal.at.offset_bounds-price-i c).After-lowest-e)
 
 pub bounds-price-i : goal.bounds-price-i
-bounds-price-i c = small (goal.at.bounds-price-i c).After-way_told-1
+bounds-price-i c = small (goal.at.bounds-price-i c).After-lowest-e
 
 pub overflow_add-sum : goal.overflow_add-sum
 overflow_add-sum c = omega (arith, emptying_fits c.loop-rest.invariant c.loop-rest-test.true c.lowest-e.ensures c.requires)
 
 pub offset_bounds-price-i-in-loop-rest : goal.offset_bounds-price-i-in-loop-rest
-offset_bounds-price-i-in-loop-rest c = omega (arith, small (goal.at.offset_bounds-price-i-in-loop-rest c).After-way_told-1)
+offset_bounds-price-i-in-loop-rest c = omega (arith, small (goal.at.offset_bounds-price-i-in-loop-rest c).After-lowest-e)
 
 pub bounds-price-i-in-loop-rest : goal.bounds-price-i-in-loop-rest
-bounds-price-i-in-loop-rest c = small (goal.at.bounds-price-i-in-loop-rest c).After-way_told-1
+bounds-price-i-in-loop-rest c = small (goal.at.bounds-price-i-in-loop-rest c).After-lowest-e
 
 pub loop-rest-smaller : goal.loop-rest-smaller
 loop-rest-smaller c =

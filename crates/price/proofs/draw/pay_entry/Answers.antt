@@ -1,11 +1,6 @@
 -- `price::draw::pay_entry` meets its contract: what it draws for a slot is drawn from every set that has a choice of each.
-use borrow.Author.Rules.{rules}
-use Prim.Native.Nat.{◌-◌, ◌≤◌}
 use native.Mathlib.Omega.{arith}
-use Rattle.price.specs.Prices.{ServesSpan, Drawn}
 use Rattle.price.proofs.Drawing.{drawn_none, drawn_more}
-use Rattle.price.proofs.draw.pay_entry.Reads as reads
-use Rattle.price.proofs.draw.pay_slot.Reads as pay-slot-reads
 use Rattle.price.proofs.draw.pay_entry.Goals as goal
 
 pub loop-s-init : goal.loop-s-init
@@ -18,7 +13,7 @@ pub bounds-choices-s : goal.bounds-choices-s
 bounds-choices-s c = omega arith
 
 pub overflow_add-sum : goal.overflow_add-sum
-overflow_add-sum c = omega (arith, c.loop-s.invariant.1.whole, c.pay_slot-sum.ensures.whole, c.requires.0.1)
+overflow_add-sum c = omega (arith, c.loop-s.invariant.1.whole, c.pay_slot-sum.ensures.whole, c.requires.fact_1.1)
 
 pub overflow_add-s : goal.overflow_add-s
 overflow_add-s c = omega arith

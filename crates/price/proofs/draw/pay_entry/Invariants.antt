@@ -1,10 +1,6 @@
 -- `price::draw::pay_entry` meets its contract: what it draws for a slot is drawn from every set that has a choice of each.
 use Prim.Native.Nat.{◌-◌, ◌≤◌}
-use native.Mathlib.Omega.{arith}
 use Rattle.price.specs.Prices.{ServesSpan, Drawn}
-use Rattle.price.proofs.Drawing.{drawn_none, drawn_more}
-use Rattle.price.proofs.draw.pay_entry.Reads as reads
-use Rattle.price.proofs.draw.pay_slot.Reads as pay-slot-reads
 use Rattle.price.proofs.draw.pay_entry.Given as goal
 
 abbrev pub invariant-loop-s : goal.invariant-loop-s

@@ -1,18 +1,13 @@
 -- `price::draw::take` meets its contract: the amount is taken from each member passed.
-use borrow.Author.Rules.{rules}
 use Rattle.plan.proofs.MemberWalk.{walk_less}
-use Rattle.price.proofs.Drawing.{Taking, taking_start, taking_small, taking_on, taking_end}
+use Rattle.price.proofs.Drawing.{taking_start, taking_small, taking_on, taking_end}
 use Prim.Native.Nat.{◌<◌}
 use native.Mathlib.Omega.{arith}
-use Rattle.bitset.specs.Bits.{count}
 use Rattle.bitset.proofs.Least.{some_member}
-use Rattle.bitset.proofs.lowest.Reads as lowest-reads
-use Rattle.bitset.proofs.without.Reads as without-reads
-use Rattle.price.proofs.draw.take.Reads as reads
-use Rattle.price.proofs.draw.take.Goals.{After-lowest-e, After-way_told-1}
+use Rattle.price.proofs.draw.take.Goals.{After-lowest-e}
 use Rattle.price.proofs.draw.take.Goals as goal
 
-small : (c : After-lowest-e invariant_loop decreases_loop) → c.lowest-e.result < 64
+small : (c : After-lowest-e) → c.lowest-e.result < 64
 small c = taking_small c.loop-rest.invariant c.loop-rest-test.true c.lowest-e.ensures
 
 pub loop-rest-init : goal.loop-rest-init
@@ -25,7 +20,7 @@ pub offset_bounds-price-i : goal.offset_bounds-price-i
 offset_bounds-price-i c = omega (arith, small (goal.at.offset_bounds-price-i c).After-lowest-e)
 
 pub bounds-price-i : goal.bounds-price-i
-bounds-price-i c = small (goal.at.bounds-price-i c).After-way_told-1
+bounds-price-i c = small (goal.at.bounds-price-i c).After-lowest-e
 
 pub overflow_sub-price : goal.overflow_sub-price
 overflow_sub-price c =
@@ -33,10 +28,10 @@ overflow_sub-price c =
     omega (arith, c.requires.1.1 _ (c.loop-rest.invariant.walked.within _ its), c.loop-rest.invariant.same _ its)
 
 pub offset_bounds-price-i-in-loop-rest : goal.offset_bounds-price-i-in-loop-rest
-offset_bounds-price-i-in-loop-rest c = omega (arith, small (goal.at.offset_bounds-price-i-in-loop-rest c).After-way_told-1)
+offset_bounds-price-i-in-loop-rest c = omega (arith, small (goal.at.offset_bounds-price-i-in-loop-rest c).After-lowest-e)
 
 pub bounds-price-i-in-loop-rest : goal.bounds-price-i-in-loop-rest
-bounds-price-i-in-loop-rest c = small (goal.at.bounds-price-i-in-loop-rest c).After-way_told-1
+bounds-price-i-in-loop-rest c = small (goal.at.bounds-price-i-in-loop-rest c).After-lowest-e
 
 pub loop-rest-smaller : goal.loop-rest-smaller
 loop-rest-smaller c =

@@ -1,20 +1,13 @@
 -- `price::floor::too_dear` meets its contract: of the members passed none is in that is not dear.
-use borrow.Author.Rules.{rules}
 use Prim.Native.Nat.{◌<◌}
-use Rattle.bitset.specs.Bits.{count}
 use Rattle.bitset.proofs.Sets.{member_below}
-use Rattle.plan.proofs.MemberWalk.{Walked, walk_start, walk_less, walk_on}
-use Rattle.price.specs.Floor.{Dear}
+use Rattle.plan.proofs.MemberWalk.{walk_start, walk_less, walk_on}
 use Rattle.price.proofs.Grounds.{dear_none, dear_on}
 use native.Mathlib.Omega.{arith}
-use Rattle.bitset.proofs.lowest.Reads as lowest-reads
-use Rattle.bitset.proofs.without.Reads as without-reads
-use Rattle.price.proofs.floor.too_dear.Reads as reads
-use Rattle.price.proofs.floor.with_dear.Reads as with-dear-reads
-use Rattle.price.proofs.floor.too_dear.Goals.{After-lowest-e, After-way_told-1}
+use Rattle.price.proofs.floor.too_dear.Goals.{After-lowest-e}
 use Rattle.price.proofs.floor.too_dear.Goals as goal
 
-small : (c : After-lowest-e invariant_loop decreases_loop) → c.lowest-e.result < 64
+small : (c : After-lowest-e) → c.lowest-e.result < 64
 small c = member_below 64 _ _ c.loop-rest.invariant.0.fits (c.lowest-e.ensures.some c.loop-rest-test.true).member
 
 pub loop-rest-init : goal.loop-rest-init
@@ -27,7 +20,7 @@ pub offset_bounds-price-e : goal.offset_bounds-price-e
 offset_bounds-price-e c = omega (arith, small (goal.at.offset_bounds-price-e c).After-lowest-e)
 
 pub bounds-price-e : goal.bounds-price-e
-bounds-price-e c = small (goal.at.bounds-price-e c).After-way_told-1
+bounds-price-e c = small (goal.at.bounds-price-e c).After-lowest-e
 
 pub loop-rest-smaller : goal.loop-rest-smaller
 loop-rest-smaller c =

@@ -1,9 +1,6 @@
 -- `price::floor::with_dear` meets its contract.
-use borrow.Author.Rules.{rules}
 use mathlib.Core.Logic.{inl}
 use Rattle.price.proofs.Grounds.{dear_more}
-use Rattle.bitset.proofs.with.Reads as with-reads
-use Rattle.price.proofs.floor.with_dear.Reads as reads
 use Rattle.price.proofs.floor.with_dear.Goals as goal
 
 pub returns-then-limit-its : goal.returns-then-limit-its

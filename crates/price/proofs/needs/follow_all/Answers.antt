@@ -1,19 +1,13 @@
 -- `price::needs::follow_all` meets its contract.
-use borrow.Author.Rules.{rules}
-use Prim.Native.Nat.{◌+◌, ◌-◌, ◌<◌}
+use Prim.Native.Nat.{◌+◌, ◌<◌}
 use native.Mathlib.Omega.{arith}
 use Rattle.bitset.proofs.Sets.{member_below}
-use Rattle.bitset.proofs.lowest.Reads as lowest-reads
-use Rattle.price.specs.Prices.{Drawn}
-use Rattle.price.specs.Needed.{Waiting, Closed}
 use Rattle.price.proofs.Drawing.{drawn_none, drawn_more, low_after}
-use Rattle.price.proofs.needs.follow_all.Reads as reads
-use Rattle.price.proofs.needs.follow.Reads as follow-reads
-use Rattle.price.proofs.needs.follow_all.Goals.{After-end-1, After-lowest-i, After-way_told-1}
+use Rattle.price.proofs.needs.follow_all.Goals.{After-lowest-i}
 use Rattle.price.proofs.needs.follow_all.Goals as goal
 
-small : (c : After-lowest-i invariant_loop decreases_loop) → c.lowest-i.result < 64
-small c = member_below 64 _ _ (omega arith) (c.lowest-i.ensures.some c.requires.1.0.1.0).member
+small : (c : After-lowest-i) → c.lowest-i.result < 64
+small c = member_below 64 _ _ (omega arith) (c.lowest-i.ensures.some c.requires.fact_2.1.0).member
 
 pub overflow_cast-i : goal.overflow_cast-i
 overflow_cast-i c = omega (arith, small (goal.at.overflow_cast-i c).After-lowest-i)
@@ -25,38 +19,42 @@ pub offset_bounds-first-i : goal.offset_bounds-first-i
 offset_bounds-first-i c = omega (arith, small (goal.at.offset_bounds-first-i c).After-lowest-i)
 
 pub bounds-first-i : goal.bounds-first-i
-bounds-first-i c = omega (arith, small (goal.at.bounds-first-i c).After-way_told-1)
+bounds-first-i c = omega (arith, small (goal.at.bounds-first-i c).After-lowest-i)
 
 pub offset_bounds-first-i-2 : goal.offset_bounds-first-i-2
-offset_bounds-first-i-2 c = omega (arith, small (goal.at.offset_bounds-first-i-2 c).After-way_told-1)
+offset_bounds-first-i-2 c = omega (arith, small (goal.at.offset_bounds-first-i-2 c).After-lowest-i)
 
 pub bounds-first-i-2 : goal.bounds-first-i-2
-bounds-first-i-2 c = omega (arith, small (goal.at.bounds-first-i-2 c).After-way_told-1)
+bounds-first-i-2 c = omega (arith, small (goal.at.bounds-first-i-2 c).After-lowest-i)
 
 pub loop-s-init : goal.loop-s-init
-loop-s-init c = (drawn_none _, c.requires.1.1)
+loop-s-init c = (drawn_none _, c.requires.fact_3)
 
 pub offset_bounds-choices-s : goal.offset_bounds-choices-s
-offset_bounds-choices-s c = omega (arith, c.requires.0 (c.lowest-i.result + 1) (omega (arith, small (goal.at.offset_bounds-choices-s c).After-way_told-1)))
+offset_bounds-choices-s c = omega (arith, c.requires.fact_1 (c.lowest-i.result + 1) (omega (arith, small (goal.at.offset_bounds-choices-s c).After-lowest-i)))
 
 pub bounds-choices-s : goal.bounds-choices-s
-bounds-choices-s c = omega (arith, c.requires.0 (c.lowest-i.result + 1) (omega (arith, small (goal.at.bounds-choices-s c).After-end-1)))
+bounds-choices-s c = omega (arith, c.requires.fact_1 (c.lowest-i.result + 1) (omega (arith, small (goal.at.bounds-choices-s c).After-lowest-i)))
 
 pub follow-more-requires : goal.follow-more-requires
 follow-more-requires c =
-    (c.requires.0, (((low_after c.requires.1.0.0 c.loop-s.invariant.0).0.0, c.requires.1.0.1.1), c.loop-s.invariant.1))
+    record {
+      fact_1 = c.requires.fact_1;
+      fact_2 = ((low_after c.requires.fact_2.0 c.loop-s.invariant.0).0.0, c.requires.fact_2.1.1);
+      fact_3 = c.loop-s.invariant.1;
+    }
 
 pub overflow_add-sum : goal.overflow_add-sum
-overflow_add-sum c = omega (arith, c.loop-s.invariant.0.whole, c.follow-more.ensures.0.whole, c.requires.1.0.0.1)
+overflow_add-sum c = omega (arith, c.loop-s.invariant.0.whole, c.follow-more.ensures.drawn.whole, c.requires.fact_2.0.1)
 
 pub overflow_add-s : goal.overflow_add-s
-overflow_add-s c = omega (arith, c.requires.0 (c.lowest-i.result + 1) (omega (arith, small (goal.at.overflow_add-s c).After-end-1)))
+overflow_add-s c = omega (arith, c.requires.fact_1 (c.lowest-i.result + 1) (omega (arith, small (goal.at.overflow_add-s c).After-lowest-i)))
 
 pub loop-s-smaller : goal.loop-s-smaller
 loop-s-smaller c = omega arith
 
 pub loop-s-preserved : goal.loop-s-preserved
-loop-s-preserved c = (drawn_more c.loop-s.invariant.0 c.follow-more.ensures.0 (λ set q. q), c.follow-more.ensures.1)
+loop-s-preserved c = (drawn_more c.loop-s.invariant.0 c.follow-more.ensures.drawn (λ set q. q), c.follow-more.ensures.waiting)
 
 pub returns : goal.returns
-returns c = c.loop-s.invariant
+returns c = record { drawn = c.loop-s.invariant.0; waiting = c.loop-s.invariant.1 }

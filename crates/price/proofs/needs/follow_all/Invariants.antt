@@ -1,13 +1,7 @@
 -- `price::needs::follow_all` meets its contract.
-use Prim.Native.Nat.{◌+◌, ◌-◌, ◌<◌}
-use native.Mathlib.Omega.{arith}
-use Rattle.bitset.proofs.Sets.{member_below}
-use Rattle.bitset.proofs.lowest.Reads as lowest-reads
+use Prim.Native.Nat.{◌-◌}
 use Rattle.price.specs.Prices.{Drawn}
 use Rattle.price.specs.Needed.{Waiting, Closed}
-use Rattle.price.proofs.Drawing.{drawn_none, drawn_more, low_after}
-use Rattle.price.proofs.needs.follow_all.Reads as reads
-use Rattle.price.proofs.needs.follow.Reads as follow-reads
 use Rattle.price.proofs.needs.follow_all.Given as goal
 
 abbrev pub invariant-loop-s : goal.invariant-loop-s

@@ -1,9 +1,6 @@
 -- `price::needs::new_kind` meets its contract.
-use borrow.Author.Rules.{rules}
 use native.Mathlib.Omega.{arith}
 use Rattle.bitset.proofs.Sets.{member_below}
-use Rattle.bitset.proofs.lowest.Reads as lowest-reads
-use Rattle.price.proofs.needs.new_kind.Reads as reads
 use Rattle.price.proofs.needs.new_kind.Goals as goal
 
 pub bounds-alike-e : goal.bounds-alike-e

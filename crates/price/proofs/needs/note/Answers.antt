@@ -1,11 +1,7 @@
 -- `price::needs::note` meets its contract.
-use borrow.Author.Rules.{rules}
 use Rattle.bitset.proofs.Sets.{member_below}
 use Rattle.price.proofs.Needed.{put_none}
 use native.Mathlib.Omega.{arith}
-use Rattle.bitset.proofs.lowest.Reads as lowest-reads
-use Rattle.price.proofs.needs.note.Reads as reads
-use Rattle.price.proofs.needs.put.Reads as put_reads
 use Rattle.price.proofs.needs.note.Goals as goal
 
 pub returns-then-its-eq0 : goal.returns-then-its-eq0

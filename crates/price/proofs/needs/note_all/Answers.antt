@@ -1,28 +1,25 @@
 -- `price::needs::note_all` meets its contract: the sets that wait are needed after each member passed.
-use borrow.Author.Rules.{rules}
 use Prim.Native.Nat.{◌<◌}
 use native.Mathlib.Omega.{arith}
-use Rattle.bitset.specs.Bits.{count}
 use Rattle.bitset.proofs.Sets.{member_below}
-use Rattle.bitset.proofs.lowest.Reads as lowest-reads
-use Rattle.bitset.proofs.without.Reads as without-reads
-use Rattle.plan.proofs.MemberWalk.{Walked, walk_start, walk_at, walk_less, walk_on}
-use Rattle.price.specs.Needed.{Waiting}
+use Rattle.plan.proofs.MemberWalk.{walk_start, walk_at, walk_less, walk_on}
 use Rattle.price.proofs.Needed.{waiting_none}
-use Rattle.price.proofs.needs.note_all.Reads as reads
-use Rattle.price.proofs.needs.note_slots.Reads as note-slots-reads
 use Rattle.price.proofs.needs.note_all.Goals.{After-lowest-e}
 use Rattle.price.proofs.needs.note_all.Goals as goal
 
-small : (c : After-lowest-e invariant_loop decreases_loop) → c.lowest-e.result < 64
+small : (c : After-lowest-e) → c.lowest-e.result < 64
 small c = member_below 64 _ _ c.loop-rest.invariant.0.fits (c.lowest-e.ensures.some c.loop-rest-test.true).member
 
 pub loop-rest-init : goal.loop-rest-init
-loop-rest-init c = (walk_start _ (omega arith), waiting_none c.requires.1)
+loop-rest-init c = (walk_start _ (omega arith), waiting_none c.requires.fact_2)
 
 pub note_slots-found-requires : goal.note_slots-found-requires
 note_slots-found-requires c =
-    (c.requires.0, ((small (goal.at.note_slots-found-requires c).After-lowest-e, walk_at c.loop-rest.invariant.0 c.loop-rest-test.true c.lowest-e.ensures), c.loop-rest.invariant.1))
+    record {
+      fact_1 = c.requires.fact_1;
+      fact_2 = (small (goal.at.note_slots-found-requires c).After-lowest-e, walk_at c.loop-rest.invariant.0 c.loop-rest-test.true c.lowest-e.ensures);
+      fact_3 = c.loop-rest.invariant.1;
+    }
 
 pub loop-rest-smaller : goal.loop-rest-smaller
 loop-rest-smaller c = walk_less c.loop-rest.invariant.0 c.loop-rest-test.true c.lowest-e.ensures c.without-rest.ensures

@@ -1,12 +1,7 @@
 -- `price::needs::note_slots` meets its contract: the sets that wait are needed after each slot.
-use borrow.Author.Rules.{rules}
-use Prim.Native.Nat.{◌+◌, ◌-◌, ◌≤◌}
-use lib.ListN.{get_or}
-use Rattle.price.specs.Needed.{Waiting}
+use Prim.Native.Nat.{◌+◌}
 use Rattle.price.proofs.Needed.{waiting_more}
 use native.Mathlib.Omega.{arith}
-use Rattle.price.proofs.needs.note_slots.Reads as reads
-use Rattle.price.proofs.needs.note.Reads as note-reads
 use Rattle.price.proofs.needs.note_slots.Goals as goal
 
 pub overflow_add-end : goal.overflow_add-end
@@ -31,23 +26,23 @@ pub bounds-first-i-2 : goal.bounds-first-i-2
 bounds-first-i-2 c = omega arith
 
 pub loop-s-init : goal.loop-s-init
-loop-s-init c = (omega arith, c.requires.1.1)
+loop-s-init c = (omega arith, c.requires.fact_3)
 
 pub offset_bounds-choices-s : goal.offset_bounds-choices-s
-offset_bounds-choices-s c = omega (arith, c.requires.0 (c.args.e + 1) (omega arith))
+offset_bounds-choices-s c = omega (arith, c.requires.fact_1 (c.args.e + 1) (omega arith))
 
 pub bounds-choices-s : goal.bounds-choices-s
-bounds-choices-s c = omega (arith, c.requires.0 (c.args.e + 1) (omega arith))
+bounds-choices-s c = omega (arith, c.requires.fact_1 (c.args.e + 1) (omega arith))
 
 pub overflow_add-s : goal.overflow_add-s
-overflow_add-s c = omega (arith, c.requires.0 (c.args.e + 1) (omega arith))
+overflow_add-s c = omega (arith, c.requires.fact_1 (c.args.e + 1) (omega arith))
 
 pub loop-s-smaller : goal.loop-s-smaller
 loop-s-smaller c = omega arith
 
 pub loop-s-preserved : goal.loop-s-preserved
 loop-s-preserved c =
-    (omega arith, waiting_more c.loop-s.invariant.1 c.note-found.ensures (λ set has serves. serves _ _ c.requires.1.0.0 (has _ c.requires.1.0.1) c.loop-s.invariant.0 c.loop-s-test.true))
+    (omega arith, waiting_more c.loop-s.invariant.1 c.note-found.ensures (λ set has serves. serves _ _ c.requires.fact_2.0 (has _ c.requires.fact_2.1) c.loop-s.invariant.0 c.loop-s-test.true))
 
 pub returns : goal.returns
 returns c = c.loop-s.invariant.1

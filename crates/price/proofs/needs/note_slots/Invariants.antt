@@ -1,11 +1,7 @@
 -- `price::needs::note_slots` meets its contract: the sets that wait are needed after each slot.
-use Prim.Native.Nat.{◌+◌, ◌-◌, ◌≤◌}
+use Prim.Native.Nat.{◌-◌, ◌≤◌}
 use lib.ListN.{get_or}
 use Rattle.price.specs.Needed.{Waiting}
-use Rattle.price.proofs.Needed.{waiting_more}
-use native.Mathlib.Omega.{arith}
-use Rattle.price.proofs.needs.note_slots.Reads as reads
-use Rattle.price.proofs.needs.note.Reads as note-reads
 use Rattle.price.proofs.needs.note_slots.Given as goal
 
 abbrev pub invariant-loop-s : goal.invariant-loop-s

@@ -1,13 +1,6 @@
 -- `price::needs::pay_needs` meets its contract: the sets that wait are needed after each that is followed.
-use borrow.Author.Rules.{rules}
-use Prim.Native.Nat.{◌-◌}
 use native.Mathlib.Omega.{arith}
-use Rattle.price.specs.Prices.{Drawn}
-use Rattle.price.specs.Needed.{Waiting, Closed}
 use Rattle.price.proofs.Drawing.{drawn_none, drawn_more, low_after}
-use Rattle.price.proofs.needs.pay_needs.Reads as reads
-use Rattle.price.proofs.needs.follow_all.Reads as follow-all-reads
-use Rattle.price.proofs.needs.note_all.Reads as note-all-reads
 use Rattle.price.proofs.needs.pay_needs.Goals as goal
 
 pub loop-i-init : goal.loop-i-init
@@ -21,10 +14,14 @@ bounds-queue-i c = omega (arith, c.loop-i.invariant.1.few)
 
 pub follow_all-more-requires : goal.follow_all-more-requires
 follow_all-more-requires c =
-    (c.requires.1, (((low_after c.requires.0 c.loop-i.invariant.0).0, c.loop-i.invariant.1.each _ c.loop-i-test.true), c.loop-i.invariant.1))
+    record {
+      fact_1 = c.requires.fact_2;
+      fact_2 = ((low_after c.requires.fact_1 c.loop-i.invariant.0).0, c.loop-i.invariant.1.each _ c.loop-i-test.true);
+      fact_3 = c.loop-i.invariant.1;
+    }
 
 pub overflow_add-sum : goal.overflow_add-sum
-overflow_add-sum c = omega (arith, c.loop-i.invariant.0.whole, c.follow_all-more.ensures.0.whole, c.requires.0.1)
+overflow_add-sum c = omega (arith, c.loop-i.invariant.0.whole, c.follow_all-more.ensures.drawn.whole, c.requires.fact_1.1)
 
 pub overflow_add-i : goal.overflow_add-i
 overflow_add-i c = omega (arith, c.loop-i.invariant.1.few)
@@ -33,7 +30,7 @@ pub loop-i-smaller : goal.loop-i-smaller
 loop-i-smaller c = omega (arith, c.loop-i.invariant.1.few)
 
 pub loop-i-preserved : goal.loop-i-preserved
-loop-i-preserved c = (drawn_more c.loop-i.invariant.0 c.follow_all-more.ensures.0 (λ set q. q), c.follow_all-more.ensures.1)
+loop-i-preserved c = (drawn_more c.loop-i.invariant.0 c.follow_all-more.ensures.drawn (λ set q. q), c.follow_all-more.ensures.waiting)
 
 pub returns : goal.returns
 returns c = c.loop-i.invariant.0

@@ -1,7 +1,5 @@
 -- `price::needs::put` meets its contract.
-use borrow.Author.Rules.{rules}
 use Rattle.price.proofs.Needed.{put_none, put_one}
-use Rattle.price.proofs.needs.put.Reads as reads
 use Rattle.price.proofs.needs.put.Goals as goal
 
 pub returns-then-count-lt64 : goal.returns-then-count-lt64

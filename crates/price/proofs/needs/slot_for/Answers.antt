@@ -1,10 +1,7 @@
 -- `price::needs::slot_for` meets its contract: the slot that is looked at is one of e.
-use borrow.Author.Rules.{rules}
 use mathlib.Core.Path.{refl}
-use Prim.Native.Nat.{◌+◌, ◌-◌, ◌≤◌}
-use lib.ListN.{get_or}
+use Prim.Native.Nat.{◌+◌}
 use native.Mathlib.Omega.{arith}
-use Rattle.price.proofs.needs.slot_for.Reads as reads
 use Rattle.price.proofs.needs.slot_for.Goals as goal
 
 pub overflow_add-end : goal.overflow_add-end
@@ -26,16 +23,16 @@ pub loop-s-init : goal.loop-s-init
 loop-s-init c = omega arith
 
 pub offset_bounds-choices-s : goal.offset_bounds-choices-s
-offset_bounds-choices-s c = omega (arith, c.requires.0 (c.args.e + 1) (omega arith))
+offset_bounds-choices-s c = omega (arith, c.requires.fact_1 (c.args.e + 1) (omega arith))
 
 pub bounds-choices-s : goal.bounds-choices-s
-bounds-choices-s c = omega (arith, c.requires.0 (c.args.e + 1) (omega arith))
+bounds-choices-s c = omega (arith, c.requires.fact_1 (c.args.e + 1) (omega arith))
 
 pub returns-then-its-row-ne0 : goal.returns-then-its-row-ne0
 returns-then-its-row-ne0 c = record { some = λ n. (c.loop-s.s, c.loop-s.invariant, c.loop-s-test.true, refl) }
 
 pub overflow_add-s : goal.overflow_add-s
-overflow_add-s c = omega (arith, c.requires.0 (c.args.e + 1) (omega arith))
+overflow_add-s c = omega (arith, c.requires.fact_1 (c.args.e + 1) (omega arith))
 
 pub loop-s-smaller : goal.loop-s-smaller
 loop-s-smaller c = omega arith

@@ -1,9 +1,6 @@
 -- `price::needs::slot_for` meets its contract: the slot that is looked at is one of e.
-use mathlib.Core.Path.{refl}
-use Prim.Native.Nat.{◌+◌, ◌-◌, ◌≤◌}
+use Prim.Native.Nat.{◌-◌, ◌≤◌}
 use lib.ListN.{get_or}
-use native.Mathlib.Omega.{arith}
-use Rattle.price.proofs.needs.slot_for.Reads as reads
 use Rattle.price.proofs.needs.slot_for.Given as goal
 
 abbrev pub invariant-loop-s : goal.invariant-loop-s

@@ -1,15 +1,9 @@
 -- `price::needs::together` meets its contract: of each member passed the choices of a slot are in the union.
-use borrow.Author.Rules.{rules}
 use mathlib.Core.Path.{refl}
 use native.Mathlib.Omega.{arith}
-use Rattle.bitset.specs.Bits.{count}
 use Rattle.bitset.proofs.Sets.{member_below}
-use Rattle.bitset.proofs.lowest.Reads as lowest-reads
-use Rattle.bitset.proofs.without.Reads as without-reads
-use Rattle.plan.proofs.MemberWalk.{Walked, walk_start, walk_less}
-use Rattle.price.proofs.Needed.{Holds, together_on, together_end}
-use Rattle.price.proofs.needs.together.Reads as reads
-use Rattle.price.proofs.needs.slot_for.Reads as slot-for-reads
+use Rattle.plan.proofs.MemberWalk.{walk_start, walk_less}
+use Rattle.price.proofs.Needed.{together_on, together_end}
 use Rattle.price.proofs.needs.together.Goals as goal
 
 pub loop-rest-init : goal.loop-rest-init
@@ -17,7 +11,7 @@ loop-rest-init c = walk_start _ (omega arith)
 
 pub slot_for-its-requires : goal.slot_for-its-requires
 slot_for-its-requires c =
-    (c.requires, member_below 64 _ _ c.loop-rest.invariant.fits (c.lowest-e.ensures.some c.loop-rest-test.true).member)
+    record { fact_1 = c.requires; fact_2 = member_below 64 _ _ c.loop-rest.invariant.fits (c.lowest-e.ensures.some c.loop-rest-test.true).member }
 
 pub returns-then-its-eq0 : goal.returns-then-its-eq0
 returns-then-its-eq0 c = record { on = λ n. absurd (n refl) }

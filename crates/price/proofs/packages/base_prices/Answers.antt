@@ -1,13 +1,6 @@
 -- `price::packages::base_prices` meets its contract: the prices below e are set.
-use borrow.Author.Rules.{rules}
-use Prim.Native.Nat.{◌+◌, ◌-◌, ◌*◌, ◌≤◌}
-use lib.ListN.{get_or}
-use Rattle.price.specs.Worth.{base_price_of}
-use Rattle.price.proofs.Filling.{Filling, filling_start, filling_on}
+use Rattle.price.proofs.Filling.{filling_start, filling_on}
 use native.Mathlib.Omega.{arith}
-use Rattle.catalogue.proofs.fields.entry_field.Reads as entry-field-reads
-use Rattle.price.proofs.packages.base_prices.Reads as reads
-use Rattle.price.proofs.worths.base_price.Reads as base-price-reads
 use Rattle.price.proofs.packages.base_prices.Goals as goal
 
 pub loop-e-init : goal.loop-e-init

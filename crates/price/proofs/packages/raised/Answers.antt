@@ -1,12 +1,6 @@
 -- `price::packages::raised` meets its contract: the prices below e are raised.
-use borrow.Author.Rules.{rules}
-use Prim.Native.Nat.{◌+◌, ◌-◌, ◌*◌}
-use lib.ListN.{get_or}
-use Rattle.bitset.specs.Bits.{bit}
-use Rattle.price.proofs.Filling.{Filling, filling_start, filling_on}
+use Rattle.price.proofs.Filling.{filling_start, filling_on}
 use native.Mathlib.Omega.{arith}
-use Rattle.price.proofs.packages.raised.Reads as reads
-use Rattle.price.proofs.packages.raised_price.Reads as raised-price-reads
 use Rattle.price.proofs.packages.raised.Goals as goal
 
 pub loop-e-init : goal.loop-e-init

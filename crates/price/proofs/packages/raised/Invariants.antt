@@ -2,10 +2,7 @@
 use Prim.Native.Nat.{◌+◌, ◌-◌, ◌*◌}
 use lib.ListN.{get_or}
 use Rattle.bitset.specs.Bits.{bit}
-use Rattle.price.proofs.Filling.{Filling, filling_start, filling_on}
-use native.Mathlib.Omega.{arith}
-use Rattle.price.proofs.packages.raised.Reads as reads
-use Rattle.price.proofs.packages.raised_price.Reads as raised-price-reads
+use Rattle.price.proofs.Filling.{Filling}
 use Rattle.price.proofs.packages.raised.Given as goal
 
 abbrev pub invariant-loop-e : goal.invariant-loop-e

@@ -1,9 +1,6 @@
 -- `price::packages::raised_price` meets its contract.
-use borrow.Author.Rules.{rules}
 use Rattle.basis.proofs.Answers.{holds, fails}
 use Rattle.price.proofs.FirstMembers.{raised_known, raised_other}
-use Rattle.bitset.proofs.has.Reads as has-reads
-use Rattle.price.proofs.packages.raised_price.Reads as reads
 use Rattle.price.proofs.packages.raised_price.Goals as goal
 
 pub returns-then-has : goal.returns-then-has

@@ -1,9 +1,6 @@
 -- `price::packages::with_package` meets its contract.
-use borrow.Author.Rules.{rules}
 use mathlib.Core.Path.{refl}
 use Rattle.price.proofs.Filling.{named_more}
-use Rattle.bitset.proofs.has.Reads as has-reads
-use Rattle.price.proofs.packages.with_package.Reads as reads
 use Rattle.price.proofs.packages.with_package.Goals as goal
 
 pub returns : goal.returns

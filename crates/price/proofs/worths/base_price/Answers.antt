@@ -1,11 +1,7 @@
 -- `price::worths::base_price` meets its contract.
-use borrow.Author.Rules.{rules}
 use mathlib.Core.Path.{ap₂}
 use Prim.Native.Nat.{ℕ, ◌+◌}
 use native.Mathlib.Omega.{arith}
-use Rattle.price.proofs.worths.base_price.Reads as reads
-use Rattle.price.proofs.worths.code_at.Reads as code-at-reads
-use Rattle.price.proofs.worths.part.Reads as part-reads
 use Rattle.price.proofs.worths.base_price.Goals as goal
 
 pub overflow_add-result : goal.overflow_add-result

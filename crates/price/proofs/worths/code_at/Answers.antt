@@ -1,9 +1,7 @@
 -- `price::worths::code_at` meets its contract.
-use borrow.Author.Rules.{rules}
 use mathlib.Core.Path.{sym}
 use lib.ListN.{get_or-eq_default}
 use Rattle.plan.proofs.Tables.{get_d_within}
-use Rattle.price.proofs.worths.code_at.Reads as reads
 use Rattle.price.proofs.worths.code_at.Goals as goal
 
 pub returns-then-i-objectives : goal.returns-then-i-objectives

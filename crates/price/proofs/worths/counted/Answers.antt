@@ -1,8 +1,6 @@
 -- `price::worths::counted` meets its contract.
-use borrow.Author.Rules.{rules}
 use native.Mathlib.Omega.{arith}
 use Rattle.price.proofs.Units.{count_other}
-use Rattle.price.proofs.worths.counted.Reads as reads
 use Rattle.price.proofs.worths.counted.Goals as goal
 
 pub returns : goal.returns

@@ -1,8 +1,6 @@
 -- `price::worths::doubled` meets its contract.
-use borrow.Author.Rules.{rules}
 use native.Mathlib.Omega.{arith}
 use Rattle.price.proofs.Units.{double_other}
-use Rattle.price.proofs.worths.doubled.Reads as reads
 use Rattle.price.proofs.worths.doubled.Goals as goal
 
 pub returns : goal.returns

@@ -1,9 +1,7 @@
 -- `price::worths::part` meets its contract.
-use borrow.Author.Rules.{rules}
 use mathlib.Core.Path.{refl}
 use Rattle.price.proofs.Units.{times_le, part_weight, part_other}
 use native.Mathlib.Omega.{arith}
-use Rattle.price.proofs.worths.part.Reads as reads
 use Rattle.price.proofs.worths.part.Goals as goal
 
 pub overflow_mul-result : goal.overflow_mul-result

@@ -1,14 +1,8 @@
 -- `price::worths::scale` meets its contract.
-use borrow.Author.Rules.{rules}
 use mathlib.Core.Path.{refl, ap₂}
 use Prim.Native.Nat.{ℕ, ◌+◌, ◌*◌}
 use Rattle.price.proofs.Units.{times_le}
 use native.Mathlib.Omega.{arith}
-use Rattle.price.proofs.worths.scale.Reads as reads
-use Rattle.price.proofs.worths.code_at.Reads as code-at-reads
-use Rattle.price.proofs.worths.counted.Reads as counted-reads
-use Rattle.price.proofs.worths.doubled.Reads as doubled-reads
-use Rattle.price.proofs.worths.span.Reads as span-reads
 use Rattle.price.proofs.worths.scale.Goals as goal
 
 pub overflow_mul-first : goal.overflow_mul-first

@@ -1,8 +1,6 @@
 -- `price::worths::span` meets its contract.
-use borrow.Author.Rules.{rules}
 use native.Mathlib.Omega.{arith}
 use Rattle.price.proofs.Units.{span_other}
-use Rattle.price.proofs.worths.span.Reads as reads
 use Rattle.price.proofs.worths.span.Goals as goal
 
 pub returns : goal.returns
