@@ -1,7 +1,7 @@
 -- Whether an entry has an earlier member of its package is a term of the sum that duplicates come down to.
 use mathlib.Core.Path.{◌≡◌, sym, ap, ap₂, ◌∙◌}
 use mathlib.Core.List.{List}
-use Prim.Native.Nat.{ℕ, ◌-◌, ◌*◌, ◌<◌}
+use Prim.Native.Nat.{ℕ, ◌*◌, ◌<◌}
 use native.Mathlib.Decide.{ℕ_discrete}
 use native.Mathlib.Nat.{zero-mul, mul-zero}
 use native.Mathlib.Omega.{arith}
@@ -18,6 +18,10 @@ use Rattle.plan.specs.Repeats.{Repeats}
 -- how many members before e are of its package
 abbrev pub before : List ℕ → ℕ → ℕ → ℕ
 before entries set e = sum (λ d. bit set d * same (field entries d 0) (field entries e 0)) e
+
+-- 1 for an entry with an earlier member of its package
+abbrev pub repeats : List ℕ → ℕ → ℕ → ℕ
+repeats entries set e = some? (before entries set e)
 
 module _ (entries : List ℕ) (set e : ℕ) where
   -- d counts, or does not

@@ -1,10 +1,12 @@
 -- Sums over the members of a set, added up along a walk through them, the lowest first.
 use mathlib.Core.Path.{◌≡◌, refl, sym, ap, ◌∙◌}
+use mathlib.Core.List.{List}
 use mathlib.Core.Logic.{◌⊎◌, inl, inr}
 use Prim.Native.Nat.{ℕ, zero, suc, ◌+◌, ◌*◌, ◌^◌, ◌≤◌, ◌<◌, min}
 use native.Mathlib.Decide.{ℕ_discrete, dec_le}
 use native.Mathlib.Nat.{zero-mul, one-mul, zero-add}
 use native.Mathlib.Omega.{arith}
+use lib.ListN.{get_or}
 use Rattle.basis.specs.Sum.{sum}
 use Rattle.basis.proofs.Sums.{sum_bound, sum_changed, sum_zero, term_le}
 use Rattle.bitset.specs.Bits.{bit, Member, count, Lowest}
@@ -21,6 +23,10 @@ bit_same a b e f g = go (bit_cases a e) (bit_cases b e)
     go (inl x) (inl y) = x ∙ sym y
     go (inl x) (inr y) = g y ∙ sym y
     go (inr x) y = x ∙ sym (f x)
+
+-- the weight of an entry, by the entries' table
+abbrev pub weights : List ℕ → ℕ → ℕ
+weights entries e = get_or entries (e * 5 + 4) 0
 
 -- the sum of g over the members of a set that are below n
 abbrev pub over : (ℕ → ℕ) → ℕ → ℕ → ℕ

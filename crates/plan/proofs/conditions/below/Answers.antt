@@ -1,5 +1,4 @@
 -- `plan::conditions::below` meets its contract: a set below 2 ^ n has its members below n, and the other way round.
-use borrow.Author.Rules.{rules}
 use Prim.Native.Nat.{◌/◌, ◌^◌}
 use native.Mathlib.Nat.{div-eq_of_lt, div-lt_iff_lt-mul}
 use native.Mathlib.Omega.{arith}

@@ -1,11 +1,7 @@
 -- `plan::conditions::fitting` meets its contract. The loop's invariant: every slot passed fits. The measure is the number of slots left.
 use Prim.Native.Nat.{ℕ, ◌+◌, ◌-◌, ◌*◌, ◌/◌, ◌<◌}
-use native.Mathlib.Nat.{not-suc-le-zero}
-use native.Mathlib.Omega.{arith}
 use lib.ListN.{length, get_or}
-use borrow.Author.Count.{below_more}
 use Rattle.plan.specs.Slots.{FittingAt}
-use Rattle.basis.proofs.Answers.{denied, granted, answer_yes, answer_no}
 use Rattle.plan.proofs.conditions.fitting.Given as goal
 
 abbrev pub invariant-loop-s : goal.invariant-loop-s

@@ -1,12 +1,8 @@
 -- `plan::conditions::named` meets its contract. The loop's invariant: every slot passed is named. The measure is the number of slots left.
-use borrow.Author.Rules.{rules}
-use Prim.Native.Nat.{ℕ, ◌+◌, ◌-◌, ◌*◌, ◌<◌}
 use native.Mathlib.Nat.{not-suc-le-zero}
 use native.Mathlib.Omega.{arith}
-use lib.ListN.{get_or}
 use borrow.Author.Count.{below_more}
-use Rattle.plan.specs.Slots.{NamedAt}
-use Rattle.basis.proofs.Answers.{denied, granted, answer_yes, answer_no}
+use Rattle.basis.proofs.Answers.{fails, holds, answer_yes, answer_no}
 use Rattle.plan.proofs.conditions.named.Goals as goal
 
 pub loop-s-init : goal.loop-s-init
@@ -15,7 +11,7 @@ loop-s-init c k h = absurd (not-suc-le-zero h)
 pub returns-then-not-named_at : goal.returns-then-not-named_at
 returns-then-not-named_at c entries objectives fits settings =
     answer_no (λ n.
-    denied c.named_at.ensures c.if-not-named_at.true
+    fails c.named_at.ensures c.if-not-named_at.true
     (record { filled = n.filled c.loop-s.s c.loop-s-test.true; empty = n.empty c.loop-s.s c.loop-s-test.true }))
 
 pub overflow_add-s : goal.overflow_add-s
@@ -25,7 +21,7 @@ pub loop-s-smaller : goal.loop-s-smaller
 loop-s-smaller c = omega arith
 
 pub loop-s-preserved : goal.loop-s-preserved
-loop-s-preserved c = below_more _ _ c.loop-s.invariant (granted c.named_at.ensures c.if-not-named_at.false)
+loop-s-preserved c = below_more _ _ c.loop-s.invariant (holds c.named_at.ensures c.if-not-named_at.false)
 
 pub returns : goal.returns
 returns c entries objectives fits settings =

@@ -1,11 +1,7 @@
 -- `plan::conditions::named` meets its contract. The loop's invariant: every slot passed is named. The measure is the number of slots left.
 use Prim.Native.Nat.{ℕ, ◌+◌, ◌-◌, ◌*◌, ◌<◌}
-use native.Mathlib.Nat.{not-suc-le-zero}
-use native.Mathlib.Omega.{arith}
 use lib.ListN.{get_or}
-use borrow.Author.Count.{below_more}
 use Rattle.plan.specs.Slots.{NamedAt}
-use Rattle.basis.proofs.Answers.{denied, granted, answer_yes, answer_no}
 use Rattle.plan.proofs.conditions.named.Given as goal
 
 abbrev pub invariant-loop-s : goal.invariant-loop-s

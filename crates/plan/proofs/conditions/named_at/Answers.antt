@@ -1,5 +1,4 @@
 -- `plan::conditions::named_at` meets its contract: the slot's owner is a member or not, and each case has its test.
-use borrow.Author.Rules.{rules}
 use Rattle.basis.proofs.Decide.{decides_eq}
 use Rattle.basis.proofs.Answers.{holds, fails}
 use Rattle.plan.proofs.SlotTests.{named_of_member, named_of_other}

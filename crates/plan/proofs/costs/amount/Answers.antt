@@ -1,5 +1,4 @@
 -- `plan::costs::amount` meets its contract: each code has its own number, and any other 0.
-use borrow.Author.Rules.{rules}
 use mathlib.Core.Path.{sym}
 use Rattle.pacsolve.specs.Cost.{amount}
 use Rattle.plan.proofs.Amounts.{amount_unknown}

@@ -1,5 +1,4 @@
 -- `plan::costs::cost` meets its contract: its three numbers are those at the first three places.
-use borrow.Author.Rules.{rules}
 use Rattle.plan.proofs.Amounts.{cost_by_places}
 use Rattle.plan.proofs.costs.cost.Goals as goal
 

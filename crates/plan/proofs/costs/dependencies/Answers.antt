@@ -1,5 +1,4 @@
 -- `plan::costs::dependencies` meets its contract: one less than the members, and 0 where there are none.
-use borrow.Author.Rules.{rules}
 use native.Mathlib.Omega.{arith}
 use Rattle.plan.proofs.costs.dependencies.Goals as goal
 

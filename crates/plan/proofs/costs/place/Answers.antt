@@ -1,5 +1,4 @@
 -- `plan::costs::place` meets its contract: the amount at a place, and 0 past the objectives.
-use borrow.Author.Rules.{rules}
 use mathlib.Core.Path.{◌∙◌}
 use Rattle.plan.proofs.Amounts.{mapped_within, mapped_past}
 use Rattle.plan.proofs.costs.place.Goals as goal

@@ -1,12 +1,8 @@
 -- `plan::costs::repeated` meets its contract. The loop walks through the members before e; its invariant: none passed is of e's package.
-use borrow.Author.Rules.{rules}
-use mathlib.Core.Path.{◌≡◌, refl}
+use mathlib.Core.Path.{refl}
 use mathlib.Core.Logic.{⊎_elim}
 use native.Mathlib.Omega.{arith}
-use Rattle.bitset.specs.Bits.{count}
-use Rattle.plan.specs.Pairs.{field}
-use Rattle.plan.proofs.MemberWalk.{Walked, walk_start, walk_end, walk_at, walk_less, walk_on}
-use Rattle.plan.proofs.costs.repeated.Goals.{In-loop-rest}
+use Rattle.plan.proofs.MemberWalk.{walk_start, walk_end, walk_at, walk_less, walk_on}
 use Rattle.plan.proofs.costs.repeated.Goals as goal
 
 pub loop-rest-init : goal.loop-rest-init
@@ -23,7 +19,7 @@ returns-then-e-d c =
 
 pub returns-then-entry_field-package : goal.returns-then-entry_field-package
 returns-then-entry_field-package c =
-    let same = rw (c.entry_field.ensures, c.entry_field-package.ensures) (goal.at.returns-then-entry_field-package c).In-loop-rest c.if-entry_field-package.true in
+    let same = rw (c.entry_field.ensures, c.entry_field-package.ensures) at c.if-entry_field-package.true in
     let member = walk_at c.loop-rest.invariant c.loop-rest-test.true c.lowest-d.ensures in
     record { some = λ d h m s. refl; none = λ n. absurd (n c.lowest-d.result c.if-e-d.false member same) }
 

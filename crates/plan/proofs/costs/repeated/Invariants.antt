@@ -1,10 +1,8 @@
 -- `plan::costs::repeated` meets its contract. The loop walks through the members before e; its invariant: none passed is of e's package.
-use mathlib.Core.Path.{◌≡◌, refl}
-use mathlib.Core.Logic.{⊎_elim}
-use native.Mathlib.Omega.{arith}
+use mathlib.Core.Path.{◌≡◌}
 use Rattle.bitset.specs.Bits.{count}
 use Rattle.plan.specs.Pairs.{field}
-use Rattle.plan.proofs.MemberWalk.{Walked, walk_start, walk_end, walk_at, walk_less, walk_on}
+use Rattle.plan.proofs.MemberWalk.{Walked}
 use Rattle.plan.proofs.costs.repeated.Given as goal
 
 abbrev pub invariant-loop-rest : goal.invariant-loop-rest

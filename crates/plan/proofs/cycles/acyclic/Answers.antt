@@ -1,5 +1,4 @@
 -- `plan::cycles::acyclic` meets its contract: where cycles are forbidden, a walk returns exactly if a row of the closed steps holds its own entry.
-use borrow.Author.Rules.{rules}
 use Rattle.plan.proofs.Trails.{acyclic_by_rows}
 use Rattle.plan.proofs.cycles.acyclic.Goals as goal
 

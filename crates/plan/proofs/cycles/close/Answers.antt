@@ -1,18 +1,8 @@
 -- `plan::cycles::close` meets its contract. The loop walks through the members; its invariant: the rows hold the walks whose inner entries are members passed.
-use borrow.Author.Rules.{rules}
-use mathlib.Core.Path.{◌≡◌}
-use mathlib.Core.List.{List}
-use Prim.Native.Nat.{ℕ}
 use native.Mathlib.Omega.{arith}
-use lib.ListN.{length}
-use Rattle.bitset.specs.Bits.{count}
-use Rattle.pacsolve.specs.Plan.{plan}
-use Rattle.catalogue.specs.declared.Settings.{Settings}
-use Rattle.catalogue.specs.Survey.{tabled}
-use Rattle.plan.specs.Closure.{Steps}
-use Rattle.plan.proofs.MemberWalk.{Walked, walk_start, walk_less, walk_on}
+use Rattle.plan.proofs.MemberWalk.{walk_start, walk_less, walk_on}
 use Rattle.plan.proofs.Subsets.{lowest_below}
-use Rattle.plan.proofs.Trails.{Closing, close_start, close_on, close_end}
+use Rattle.plan.proofs.Trails.{close_start, close_on, close_end}
 use Rattle.plan.proofs.cycles.close.Goals as goal
 
 pub loop-rest-init : goal.loop-rest-init

@@ -2,16 +2,14 @@
 use mathlib.Core.Path.{◌≡◌}
 use mathlib.Core.List.{List}
 use Prim.Native.Nat.{ℕ}
-use native.Mathlib.Omega.{arith}
 use lib.ListN.{length}
 use Rattle.bitset.specs.Bits.{count}
 use Rattle.pacsolve.specs.Plan.{plan}
 use Rattle.catalogue.specs.declared.Settings.{Settings}
 use Rattle.catalogue.specs.Survey.{tabled}
 use Rattle.plan.specs.Closure.{Steps}
-use Rattle.plan.proofs.MemberWalk.{Walked, walk_start, walk_less, walk_on}
-use Rattle.plan.proofs.Subsets.{lowest_below}
-use Rattle.plan.proofs.Trails.{Closing, close_start, close_on, close_end}
+use Rattle.plan.proofs.MemberWalk.{Walked}
+use Rattle.plan.proofs.Trails.{Closing}
 use Rattle.plan.proofs.cycles.close.Given as goal
 
 abbrev pub invariant-loop-rest : goal.invariant-loop-rest

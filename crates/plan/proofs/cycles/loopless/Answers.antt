@@ -1,10 +1,7 @@
 -- `plan::cycles::loopless` meets its contract. The loop's invariant: no row passed holds its own entry. The measure is the number of rows left.
-use borrow.Author.Rules.{rules}
-use Prim.Native.Nat.{ℕ, ◌-◌, ◌<◌}
 use native.Mathlib.Nat.{not-suc-le-zero}
 use native.Mathlib.Omega.{arith}
 use borrow.Author.Count.{below_more}
-use Rattle.plan.specs.Closure.{Holds}
 use Rattle.basis.proofs.Answers.{holds, fails, answer_yes, answer_no}
 use Rattle.plan.proofs.cycles.loopless.Goals as goal
 

@@ -1,10 +1,6 @@
 -- `plan::cycles::loopless` meets its contract. The loop's invariant: no row passed holds its own entry. The measure is the number of rows left.
 use Prim.Native.Nat.{ℕ, ◌-◌, ◌<◌}
-use native.Mathlib.Nat.{not-suc-le-zero}
-use native.Mathlib.Omega.{arith}
-use borrow.Author.Count.{below_more}
 use Rattle.plan.specs.Closure.{Holds}
-use Rattle.basis.proofs.Answers.{holds, fails, answer_yes, answer_no}
 use Rattle.plan.proofs.cycles.loopless.Given as goal
 
 abbrev pub invariant-loop-d : goal.invariant-loop-d

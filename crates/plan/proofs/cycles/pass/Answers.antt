@@ -1,11 +1,8 @@
 -- `plan::cycles::pass` meets its contract. The loop's invariant: the rows passed are done, and the others are as they were; so row k is what it was, and
 -- taking it up again changes nothing. The measure is the number of rows left.
-use borrow.Author.Rules.{rules}
-use mathlib.Core.Path.{◌≡◌, refl}
-use Prim.Native.Nat.{◌-◌}
+use mathlib.Core.Path.{refl}
 use native.Mathlib.Omega.{arith}
-use lib.ListN.{get_or}
-use Rattle.plan.proofs.Closing.{Passing, pass_start, pass_on, pass_end}
+use Rattle.plan.proofs.Closing.{pass_start, pass_on, pass_end}
 use Rattle.plan.proofs.cycles.pass.Goals as goal
 
 pub offset_bounds-rows-k : goal.offset_bounds-rows-k

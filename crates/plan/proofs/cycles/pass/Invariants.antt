@@ -1,10 +1,9 @@
 -- `plan::cycles::pass` meets its contract. The loop's invariant: the rows passed are done, and the others are as they were; so row k is what it was, and
 -- taking it up again changes nothing. The measure is the number of rows left.
-use mathlib.Core.Path.{◌≡◌, refl}
+use mathlib.Core.Path.{◌≡◌}
 use Prim.Native.Nat.{◌-◌}
-use native.Mathlib.Omega.{arith}
 use lib.ListN.{get_or}
-use Rattle.plan.proofs.Closing.{Passing, pass_start, pass_on, pass_end}
+use Rattle.plan.proofs.Closing.{Passing}
 use Rattle.plan.proofs.cycles.pass.Given as goal
 
 abbrev pub invariant-loop-d : goal.invariant-loop-d

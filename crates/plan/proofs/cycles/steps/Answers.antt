@@ -1,15 +1,7 @@
 -- `plan::cycles::steps` meets its contract. The loop's invariant: the rows hold the steps of the slots passed. The measure is the number of slots left.
-use borrow.Author.Rules.{rules}
-use mathlib.Core.Path.{◌≡◌, refl}
-use mathlib.Core.List.{List}
-use Prim.Native.Nat.{ℕ, ◌-◌}
+use mathlib.Core.Path.{refl}
 use native.Mathlib.Omega.{arith}
-use lib.ListN.{length}
-use Rattle.pacsolve.specs.Plan.{plan}
-use Rattle.catalogue.specs.declared.Settings.{Settings}
-use Rattle.catalogue.specs.Survey.{tabled}
-use Rattle.plan.proofs.Trails.{Linking, link_start, link_on, link_end}
-use Rattle.plan.proofs.cycles.steps.Goals.{In-loop-s}
+use Rattle.plan.proofs.Trails.{link_start, link_on, link_end}
 use Rattle.plan.proofs.cycles.steps.Goals as goal
 
 pub loop-s-init : goal.loop-s-init
@@ -29,7 +21,7 @@ loop-s-preserved c = (
   c.link.ensures.size,
   λ entries objectives fits settings.
       link_on _ _ c.loop-s-test.true (c.loop-s.invariant.1 entries objectives fits settings)
-      (rw (c.owner-owner.ensures, c.choice-choice.ensures) (goal.at.loop-s-preserved c).In-loop-s c.link.ensures),
+      (rw (c.owner-owner.ensures, c.choice-choice.ensures) at c.link.ensures),
 )
 
 pub returns : goal.returns

@@ -1,13 +1,12 @@
 -- `plan::cycles::steps` meets its contract. The loop's invariant: the rows hold the steps of the slots passed. The measure is the number of slots left.
-use mathlib.Core.Path.{◌≡◌, refl}
+use mathlib.Core.Path.{◌≡◌}
 use mathlib.Core.List.{List}
 use Prim.Native.Nat.{ℕ, ◌-◌}
-use native.Mathlib.Omega.{arith}
 use lib.ListN.{length}
 use Rattle.pacsolve.specs.Plan.{plan}
 use Rattle.catalogue.specs.declared.Settings.{Settings}
 use Rattle.catalogue.specs.Survey.{tabled}
-use Rattle.plan.proofs.Trails.{Linking, link_start, link_on, link_end}
+use Rattle.plan.proofs.Trails.{Linking}
 use Rattle.plan.proofs.cycles.steps.Given as goal
 
 abbrev pub invariant-loop-s : goal.invariant-loop-s

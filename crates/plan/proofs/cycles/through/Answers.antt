@@ -1,5 +1,4 @@
 -- `plan::cycles::through` meets its contract: a bitwise or has the members of both.
-use borrow.Author.Rules.{rules}
 use Rattle.basis.proofs.Answers.{holds, fails}
 use Rattle.plan.proofs.Closing.{through_yes, through_no}
 use Rattle.plan.proofs.cycles.through.Goals as goal

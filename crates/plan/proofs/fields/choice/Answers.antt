@@ -1,5 +1,4 @@
 -- `plan::fields::choice` meets its contract: within the table the default does not matter, and past its end the answer is the default.
-use borrow.Author.Rules.{rules}
 use mathlib.Core.Path.{sym}
 use native.Mathlib.Omega.{arith}
 use lib.ListN.{get_or-eq_default}

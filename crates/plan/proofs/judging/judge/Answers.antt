@@ -1,5 +1,4 @@
 -- `plan::judging::judge` meets its contract: a first fault is answered as it is, and where there is none the plan is sound.
-use borrow.Author.Rules.{rules}
 use mathlib.Core.Path.{refl, ap}
 use Rattle.plan.specs.declared.Checked.TheVariants.{Sound}
 use Rattle.plan.specs.Judged.{broken, sound}

@@ -1,5 +1,4 @@
 -- `plan::packages::beside` meets its contract: its tests are the cases of the condition.
-use borrow.Author.Rules.{rules}
 use Rattle.basis.proofs.Decide.{decides_by, decides_not, decides_eq}
 use Rattle.basis.proofs.Answers.{answer_no}
 use Rattle.plan.proofs.packages.beside.Goals as goal

@@ -1,5 +1,4 @@
 -- `plan::walks::reached` meets its contract: every member is reached exactly if what is reached is the whole set.
-use borrow.Author.Rules.{rules}
 use Rattle.plan.proofs.Reaching.{reached_by_grown}
 use Rattle.plan.proofs.walks.reached.Goals as goal
 

@@ -1,13 +1,6 @@
 -- `plan::walks::round` meets its contract. The loop's invariant is a round at its slot; the measure is the number of slots left.
-use borrow.Author.Rules.{rules}
-use mathlib.Core.List.{List}
-use Prim.Native.Nat.{ℕ, ◌-◌}
 use native.Mathlib.Omega.{arith}
-use Rattle.pacsolve.specs.Plan.{plan}
-use Rattle.catalogue.specs.declared.Settings.{Settings}
-use Rattle.catalogue.specs.Survey.{tabled}
-use Rattle.plan.proofs.Reaching.{Rounding, round_start, round_on, round_end}
-use Rattle.plan.proofs.walks.round.Goals.{In-loop-s}
+use Rattle.plan.proofs.Reaching.{round_start, round_on, round_end}
 use Rattle.plan.proofs.walks.round.Goals as goal
 
 pub loop-s-init : goal.loop-s-init
@@ -22,7 +15,7 @@ loop-s-smaller c = omega arith
 pub loop-s-preserved : goal.loop-s-preserved
 loop-s-preserved c entries objectives fits settings =
     round_on _ _ c.loop-s-test.true (c.loop-s.invariant entries objectives fits settings)
-    (rw (c.owner-owner.ensures, c.choice-choice.ensures) (goal.at.loop-s-preserved c).In-loop-s c.joined-next.ensures)
+    (rw (c.owner-owner.ensures, c.choice-choice.ensures) at c.joined-next.ensures)
 
 pub returns : goal.returns
 returns c entries objectives fits settings = round_end _ _ c.loop-s-test.false (c.loop-s.invariant entries objectives fits settings)

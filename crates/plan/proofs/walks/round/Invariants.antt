@@ -1,11 +1,10 @@
 -- `plan::walks::round` meets its contract. The loop's invariant is a round at its slot; the measure is the number of slots left.
 use mathlib.Core.List.{List}
 use Prim.Native.Nat.{ℕ, ◌-◌}
-use native.Mathlib.Omega.{arith}
 use Rattle.pacsolve.specs.Plan.{plan}
 use Rattle.catalogue.specs.declared.Settings.{Settings}
 use Rattle.catalogue.specs.Survey.{tabled}
-use Rattle.plan.proofs.Reaching.{Rounding, round_start, round_on, round_end}
+use Rattle.plan.proofs.Reaching.{Rounding}
 use Rattle.plan.proofs.walks.round.Given as goal
 
 abbrev pub invariant-loop-s : goal.invariant-loop-s
