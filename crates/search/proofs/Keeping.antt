@@ -1,5 +1,5 @@
 -- What becomes of the one plan of a complete node.
-use mathlib.Core.Path.{◌≡◌, refl, sym, ap, ◌∙◌}
+use mathlib.Core.Path.{◌≡◌, refl, ap}
 use mathlib.Core.Bool.{Bool, true, false}
 use mathlib.Core.List.{List}
 use mathlib.Core.Logic.{inl, inr, ◌↔◌}
@@ -101,14 +101,11 @@ which (Refused r) = 0
 which (Broken k) = 1
 which (SoundAt c) = 2
 
-pub judged_apart : (a : Checked) → denote.Enum.Declared.tag_of (denote.Enum.Declared.declared Rattle.plan.specs.contracts.Checked.enum) a ≡ which a
-judged_apart (Refused r) = refl
-judged_apart (Broken k) = refl
-judged_apart (SoundAt c) = refl
-
--- another case is not that of a sound plan
-pub no_sound : (a : Checked) (k : ℕ) → denote.Enum.Declared.tag_of (denote.Enum.Declared.declared Rattle.plan.specs.contracts.Checked.enum) a ≡ k → which a ≡ 2 → ¬ (k ≡ 2) → ⊥
-no_sound a k t w n = n (sym t ∙ judged_apart a ∙ w)
+-- the third case is that of a sound plan
+pub only_sound : (a : Checked) → which a ≡ 2 → (c : Cost) × (a ≡ SoundAt c)
+only_sound (Refused r) w = absurd (omega arith)
+only_sound (Broken k) w = absurd (omega arith)
+only_sound (SoundAt c) w = (c, refl)
 
 module _ (p : Problem) (set : ℕ) (table : List ℕ) (a : Checked) (judged : Judges p set table a) where
   pub judged_unsound : ¬ (which a ≡ 2) → ¬ Sound p (plan set table)

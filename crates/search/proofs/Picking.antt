@@ -1,5 +1,5 @@
 -- What a pick says, by its case.
-use mathlib.Core.Path.{◌≡◌, refl, sym, ◌∙◌}
+use mathlib.Core.Path.{◌≡◌, sym, ◌∙◌}
 use mathlib.Core.List.{List}
 use Prim.Native.Nat.{ℕ}
 use native.Mathlib.Decide.{ℕ_discrete}
@@ -18,13 +18,6 @@ which (Split s) = 0
 which (Force s) = 1
 which Dead = 2
 which Complete = 3
-
--- which is how the machine tells them apart
-pub told_apart : (a : Pick) → denote.Enum.Declared.tag_of (denote.Enum.Declared.declared Rattle.search.specs.contracts.Pick.enum) a ≡ which a
-told_apart (Split s) = refl
-told_apart (Force s) = refl
-told_apart Dead = refl
-told_apart Complete = refl
 
 module _ (slots : List ℕ) (must : ℕ) (choices : List ℕ) where
   pub picked_dead : (a : Pick) → which a ≡ 2 → Picked slots must choices a → (s : ℕ) × Due slots must s × (get_or choices s 0 ≡ 0)

@@ -1,18 +1,11 @@
 -- `lister::ask::ask` meets its contract.
-use borrow.Author.Rules.{rules}
 use mathlib.Core.Path.{◌≡◌, sym, ap}
 use native.Mathlib.Omega.{arith}
 use lib.ListN.{length}
 use borrow.Kind.Array.{good_length, e_int}
 use mir.Syntax.{w8}
 use Rattle.catalogue.specs.Tables.{lent}
-use Rattle.catalogue.proofs.call.survey.Reads as survey-reads
-use Rattle.plan.proofs.costs.cost.Reads as cost-reads
-use Rattle.search.proofs.least.least.Reads as least-reads
 use Rattle.lister.proofs.Asks.{survey_refused, survey_sane, few_slots, few_bytes, posed, answered_unsound, answered_found, answered_none}
-use Rattle.lister.proofs.ask.ask.Reads as reads
-use Rattle.lister.proofs.ask.kept_aside.Reads as kept-aside-reads
-use Rattle.lister.proofs.ask.unsound_if.Reads as unsound-if-reads
 use Rattle.lister.proofs.ask.ask.Goals as goal
 
 pub returns-then-number-ne0 : goal.returns-then-number-ne0

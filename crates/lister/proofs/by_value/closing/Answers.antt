@@ -1,5 +1,4 @@
 -- `lister::by_value::closing` meets its contract.
-use borrow.Author.Rules.{rules}
 use Rattle.lister.proofs.TurnCore.{closing_by, closing_nine, closing_eleven}
 use Rattle.lister.proofs.by_value.closing.Goals as goal
 

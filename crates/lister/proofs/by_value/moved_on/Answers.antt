@@ -1,5 +1,4 @@
 -- `lister::by_value::moved_on` meets its contract.
-use borrow.Author.Rules.{rules}
 use mathlib.Core.Path.{refl}
 use Rattle.lister.specs.Turns.{closed, left, refused_with, given_plan}
 use Rattle.lister.proofs.by_value.moved_on.Goals as goal

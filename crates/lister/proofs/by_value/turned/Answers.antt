@@ -1,11 +1,6 @@
 -- `lister::by_value::turned` meets its contract.
-use borrow.Author.Rules.{rules}
 use Rattle.catalogue.specs.Tables.{lent}
 use Rattle.lister.proofs.TurnCore.{turned_closed, turned_by_stage}
-use Rattle.lister.proofs.by_value.turned.Reads as reads
-use Rattle.lister.proofs.ask.ask.Reads as ask-reads
-use Rattle.lister.proofs.by_value.closing.Reads as closing-reads
-use Rattle.lister.proofs.by_value.moved_on.Reads as moved-on-reads
 use Rattle.lister.proofs.by_value.turned.Goals as goal
 
 pub returns-then-stage-gt1 : goal.returns-then-stage-gt1

@@ -1,11 +1,5 @@
 -- `node::afford::afford` meets its contract.
-use borrow.Author.Rules.{rules}
 use Rattle.node.proofs.Affording.{afforded}
-use Rattle.price.proofs.floor.lay.Reads as lay-reads
-use Rattle.node.proofs.afford.afford.Reads as reads
-use Rattle.node.proofs.afford.beyond_means.Reads as beyond-means-reads
-use Rattle.node.proofs.banned.ban_all.Reads as ban-all-reads
-use Rattle.node.proofs.ceiling.ceiling.Reads as ceiling-reads
 use Rattle.node.proofs.afford.afford.Goals as goal
 
 pub returns : goal.returns

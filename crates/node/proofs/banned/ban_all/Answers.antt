@@ -1,5 +1,4 @@
 -- `node::banned::ban_all` meets its contract.
-use borrow.Author.Rules.{rules}
 use Rattle.node.proofs.Banning.{joined_bans}
 use Rattle.node.proofs.banned.ban_all.Goals as goal
 

@@ -1,12 +1,8 @@
 -- `node::ceiling::low_in` meets its contract.
-use borrow.Author.Rules.{rules}
 use native.Mathlib.Omega.{arith}
 use Rattle.node.proofs.Few.{lowest_fits}
 use Rattle.node.proofs.Lower.{lowest_low}
 use Rattle.node.proofs.Told.{said_yes}
-use Rattle.bitset.proofs.has.Reads as has-reads
-use Rattle.bitset.proofs.lowest.Reads as lowest-reads
-use Rattle.node.proofs.ceiling.low_in.Reads as reads
 use Rattle.node.proofs.ceiling.low_in.Goals as goal
 
 pub returns-then-has : goal.returns-then-has

@@ -1,10 +1,10 @@
 -- `node::ceiling::low_table` meets its contract: what is stored for each slot before `s` is what `low_in` says.
 use borrow.Author.Rules.{rules}
-use mathlib.Core.Path.{◌≡◌, refl}
-use Prim.Native.Nat.{ℕ, ◌≤◌, ◌<◌, ◌-◌, ◌*◌}
+use mathlib.Core.Path.{refl}
+use Prim.Native.Nat.{◌*◌}
 use native.Mathlib.Omega.{arith}
 use borrow.Author.Count.{below_none}
-use lib.ListN.{length, get_or, length-set}
+use lib.ListN.{get_or, length-set}
 use Rattle.pacsolve.specs.Plan.{none}
 use Rattle.catalogue.specs.Spans.{owner_in}
 use Rattle.node.specs.Facts.{LowIn}

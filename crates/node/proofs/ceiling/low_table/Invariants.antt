@@ -1,13 +1,10 @@
 -- `node::ceiling::low_table` meets its contract: what is stored for each slot before `s` is what `low_in` says.
-use mathlib.Core.Path.{◌≡◌, refl}
-use Prim.Native.Nat.{ℕ, ◌≤◌, ◌<◌, ◌-◌, ◌*◌}
-use native.Mathlib.Omega.{arith}
-use borrow.Author.Count.{below_none}
-use lib.ListN.{length, get_or, length-set}
+use mathlib.Core.Path.{◌≡◌}
+use Prim.Native.Nat.{ℕ, ◌≤◌, ◌<◌, ◌-◌}
+use lib.ListN.{length, get_or}
 use Rattle.pacsolve.specs.Plan.{none}
 use Rattle.catalogue.specs.Spans.{owner_in}
 use Rattle.node.specs.Facts.{LowIn}
-use Rattle.node.proofs.Stores.{stored_more}
 use Rattle.node.proofs.ceiling.low_table.Given as goal
 
 abbrev pub invariant-loop-s : goal.invariant-loop-s

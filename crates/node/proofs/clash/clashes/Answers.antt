@@ -1,5 +1,4 @@
 -- `node::clash::clashes` meets its contract.
-use borrow.Author.Rules.{rules}
 use Rattle.node.proofs.Clashing.{clashes_pip, clashes_cargo, clashes_none}
 use Rattle.node.proofs.clash.clashes.Goals as goal
 

@@ -1,10 +1,8 @@
 -- `node::clash::equal_row` meets its contract: of the entries before `f`, the row holds exactly those whose field `k` is that of `e`.
-use mathlib.Core.Logic.{⊎_elim}
-use mathlib.Core.Path.{◌≡◌, sym, ◌∙◌}
+use mathlib.Core.Path.{◌≡◌}
 use Prim.Native.Nat.{◌≤◌, ◌-◌}
-use native.Mathlib.Omega.{arith}
 use Rattle.plan.specs.Pairs.{field}
-use Rattle.node.proofs.Clashing.{Upto, upto_none, upto_with, upto_same, upto_end}
+use Rattle.node.proofs.Clashing.{Upto}
 use Rattle.node.proofs.clash.equal_row.Given as goal
 
 abbrev pub invariant-loop-f : goal.invariant-loop-f

@@ -1,10 +1,7 @@
 -- `node::clash::equal_rows` meets its contract: the rows before `e` are stored.
 use borrow.Author.Rules.{rules}
-use mathlib.Core.Path.{◌≡◌}
-use Prim.Native.Nat.{◌≤◌, ◌-◌}
 use native.Mathlib.Omega.{arith}
-use Rattle.plan.specs.Pairs.{field}
-use Rattle.node.proofs.Clashing.{RowsTo, rows_none, rows_more, rows_end}
+use Rattle.node.proofs.Clashing.{rows_none, rows_more, rows_end}
 use Rattle.node.proofs.clash.equal_rows.Goals as goal
 
 pub loop-e-init : goal.loop-e-init

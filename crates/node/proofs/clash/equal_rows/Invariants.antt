@@ -1,9 +1,8 @@
 -- `node::clash::equal_rows` meets its contract: the rows before `e` are stored.
 use mathlib.Core.Path.{◌≡◌}
 use Prim.Native.Nat.{◌≤◌, ◌-◌}
-use native.Mathlib.Omega.{arith}
 use Rattle.plan.specs.Pairs.{field}
-use Rattle.node.proofs.Clashing.{RowsTo, rows_none, rows_more, rows_end}
+use Rattle.node.proofs.Clashing.{RowsTo}
 use Rattle.node.proofs.clash.equal_rows.Given as goal
 
 abbrev pub invariant-loop-e : goal.invariant-loop-e

@@ -1,8 +1,7 @@
 -- `node::clash::shared` meets its contract: the rows before `e` are stored.
 use borrow.Author.Rules.{rules}
-use Prim.Native.Nat.{◌≤◌, ◌-◌}
 use native.Mathlib.Omega.{arith}
-use Rattle.node.proofs.Clashing.{SharedTo, rows_none, rows_end, shared_more}
+use Rattle.node.proofs.Clashing.{rows_none, rows_end, shared_more}
 use Rattle.node.proofs.clash.shared.Goals as goal
 
 pub loop-e-init : goal.loop-e-init

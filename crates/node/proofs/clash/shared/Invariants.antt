@@ -1,7 +1,6 @@
 -- `node::clash::shared` meets its contract: the rows before `e` are stored.
 use Prim.Native.Nat.{◌≤◌, ◌-◌}
-use native.Mathlib.Omega.{arith}
-use Rattle.node.proofs.Clashing.{SharedTo, rows_none, rows_end, shared_more}
+use Rattle.node.proofs.Clashing.{SharedTo}
 use Rattle.node.proofs.clash.shared.Given as goal
 
 abbrev pub invariant-loop-e : goal.invariant-loop-e

@@ -1,5 +1,4 @@
 -- `node::clash_ban::clash_banned` meets its contract.
-use borrow.Author.Rules.{rules}
 use mathlib.Core.Path.{refl}
 use Rattle.node.proofs.ClashBanning.{clash_settled}
 use Rattle.node.proofs.clash_ban.clash_banned.Goals as goal

@@ -1,10 +1,7 @@
 -- `node::clash_ban::with_clashes` meets its contract. The loop walks through the must entries; what is banned so far was banned before, or clashes with one of them.
-use borrow.Author.Rules.{rules}
 use native.Mathlib.Omega.{arith}
-use Rattle.bitset.specs.Bits.{count}
-use Rattle.plan.proofs.MemberWalk.{Walked, walk_start, walk_at, walk_less, walk_on}
+use Rattle.plan.proofs.MemberWalk.{walk_start, walk_at, walk_less, walk_on}
 use Rattle.plan.proofs.Subsets.{lowest_below}
-use Rattle.node.specs.Clashing.{Banned}
 use Rattle.node.proofs.ClashBanning.{banned_none, banned_more}
 use Rattle.node.proofs.clash_ban.with_clashes.Goals as goal
 

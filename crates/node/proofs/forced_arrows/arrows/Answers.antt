@@ -1,10 +1,7 @@
 -- `node::forced_arrows::arrows` meets its contract. The measure is the number of live entries left.
-use borrow.Author.Rules.{rules}
-use Prim.Native.Nat.{◌+◌, ◌^◌, ◌<◌}
+use Prim.Native.Nat.{◌+◌}
 use native.Mathlib.Omega.{arith}
-use Rattle.bitset.specs.Bits.{count}
 use Rattle.plan.proofs.Subsets.{lowest_below, left_count}
-use Rattle.node.specs.Arrows.{Sources}
 use Rattle.node.proofs.Arrows.{sources_none, sources_more}
 use Rattle.node.proofs.forced_arrows.arrows.Goals as goal
 

@@ -1,10 +1,6 @@
 -- `node::forced_arrows::follow` meets its contract. The measure is the number of live entries left.
-use borrow.Author.Rules.{rules}
-use Prim.Native.Nat.{◌^◌, ◌<◌}
 use native.Mathlib.Omega.{arith}
-use Rattle.bitset.specs.Bits.{count}
 use Rattle.plan.proofs.Subsets.{lowest_below, left_count}
-use Rattle.node.specs.Arrows.{Followed}
 use Rattle.node.proofs.Arrows.{followed_none, followed_more}
 use Rattle.node.proofs.forced_arrows.follow.Goals as goal
 

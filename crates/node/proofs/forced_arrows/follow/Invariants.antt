@@ -1,10 +1,7 @@
 -- `node::forced_arrows::follow` meets its contract. The measure is the number of live entries left.
 use Prim.Native.Nat.{◌^◌, ◌<◌}
-use native.Mathlib.Omega.{arith}
 use Rattle.bitset.specs.Bits.{count}
-use Rattle.plan.proofs.Subsets.{lowest_below, left_count}
 use Rattle.node.specs.Arrows.{Followed}
-use Rattle.node.proofs.Arrows.{followed_none, followed_more}
 use Rattle.node.proofs.forced_arrows.follow.Given as goal
 
 abbrev pub invariant-loop-rest : goal.invariant-loop-rest

@@ -1,5 +1,4 @@
 -- `node::forced_arrows::follow_by` meets its contract: what leads to what leads to an entry leads to it.
-use borrow.Author.Rules.{rules}
 use Rattle.node.proofs.Arrows.{followed_pass}
 use Rattle.node.proofs.forced_arrows.follow_by.Goals as goal
 

@@ -1,5 +1,4 @@
 -- `node::forced_arrows::forced_arrows` meets its contract: what leads to itself is in no plan, and no plan names a choice that is taken away.
-use borrow.Author.Rules.{rules}
 use Rattle.node.proofs.Arrows.{loops_unused, names_unlooped}
 use Rattle.node.proofs.Banning.{settled_banned, settled_same}
 use Rattle.node.proofs.Slotted.{tabled_slotted}

@@ -1,5 +1,4 @@
 -- `node::forced_arrows::point` meets its contract: where the slot has one choice, that choice's row has the owner too.
-use borrow.Author.Rules.{rules}
 use Rattle.node.proofs.Arrows.{pointed_none, pointed_one}
 use Rattle.node.proofs.Few.{of_one}
 use Rattle.node.proofs.forced_arrows.point.Goals as goal

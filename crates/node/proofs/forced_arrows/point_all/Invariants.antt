@@ -1,8 +1,6 @@
 -- `node::forced_arrows::point_all` meets its contract. The measure is the number of slots left.
 use Prim.Native.Nat.{◌-◌, ◌≤◌}
-use native.Mathlib.Omega.{arith}
 use Rattle.node.specs.Arrows.{PointedAll}
-use Rattle.node.proofs.Arrows.{pointed_start, pointed_more}
 use Rattle.node.proofs.forced_arrows.point_all.Given as goal
 
 abbrev pub invariant-loop-s : goal.invariant-loop-s

@@ -1,8 +1,5 @@
 -- `node::forced_arrows::take_back` meets its contract. The measure is the number of slots left.
-use borrow.Author.Rules.{rules}
-use Prim.Native.Nat.{◌-◌, ◌≤◌}
 use native.Mathlib.Omega.{arith}
-use Rattle.node.specs.Arrows.{TakenBack}
 use Rattle.node.proofs.Arrows.{back_none, back_more}
 use Rattle.node.proofs.forced_arrows.take_back.Goals as goal
 

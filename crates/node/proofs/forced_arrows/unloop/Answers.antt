@@ -1,10 +1,7 @@
 -- `node::forced_arrows::unloop` meets its contract. The measure is the number of live entries left.
-use borrow.Author.Rules.{rules}
-use Prim.Native.Nat.{◌+◌, ◌^◌, ◌<◌}
+use Prim.Native.Nat.{◌+◌}
 use native.Mathlib.Omega.{arith}
-use Rattle.bitset.specs.Bits.{count}
 use Rattle.plan.proofs.Subsets.{lowest_below, left_count}
-use Rattle.node.specs.Arrows.{Unlooped}
 use Rattle.node.proofs.Arrows.{unlooped_none, unlooped_more}
 use Rattle.node.proofs.forced_arrows.unloop.Goals as goal
 

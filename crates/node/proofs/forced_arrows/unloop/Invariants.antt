@@ -1,10 +1,7 @@
 -- `node::forced_arrows::unloop` meets its contract. The measure is the number of live entries left.
-use Prim.Native.Nat.{◌+◌, ◌^◌, ◌<◌}
-use native.Mathlib.Omega.{arith}
+use Prim.Native.Nat.{◌^◌, ◌<◌}
 use Rattle.bitset.specs.Bits.{count}
-use Rattle.plan.proofs.Subsets.{lowest_below, left_count}
 use Rattle.node.specs.Arrows.{Unlooped}
-use Rattle.node.proofs.Arrows.{unlooped_none, unlooped_more}
 use Rattle.node.proofs.forced_arrows.unloop.Given as goal
 
 abbrev pub invariant-loop-rest : goal.invariant-loop-rest

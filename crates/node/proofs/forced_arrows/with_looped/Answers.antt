@@ -1,5 +1,4 @@
 -- `node::forced_arrows::with_looped` meets its contract.
-use borrow.Author.Rules.{rules}
 use Rattle.node.proofs.Arrows.{looped_none, looped_one}
 use Rattle.node.proofs.Told.{said_yes}
 use Rattle.node.proofs.forced_arrows.with_looped.Goals as goal

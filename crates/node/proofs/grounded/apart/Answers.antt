@@ -1,5 +1,4 @@
 -- `node::grounded::apart` meets its contract.
-use borrow.Author.Rules.{rules}
 use native.Mathlib.Omega.{arith}
 use lib.Bits.{bit_and}
 use Rattle.basis.proofs.Decide.{decides_eq}

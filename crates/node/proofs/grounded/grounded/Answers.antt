@@ -1,5 +1,4 @@
 -- `node::grounded::grounded` meets its contract: what is banned is in no plan, and the choices are left as they are.
-use borrow.Author.Rules.{rules}
 use mathlib.Core.Path.{refl}
 use Rattle.node.proofs.Banning.{settled_banned, settled_same}
 use Rattle.node.proofs.Slotted.{tabled_slotted}

@@ -1,5 +1,4 @@
 -- `node::grounded::highest` meets its contract.
-use borrow.Author.Rules.{rules}
 use native.Mathlib.Omega.{arith}
 use Rattle.node.proofs.Grounding.{zeros_below, highest_member}
 use Rattle.node.proofs.grounded.highest.Goals as goal

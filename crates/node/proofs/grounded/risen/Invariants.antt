@@ -1,10 +1,6 @@
 -- `node::grounded::risen` meets its contract. The loop's invariant: unless something is found, each entry passed is held up. The measure is the number of entries left.
-use Prim.Native.Nat.{◌+◌}
-use native.Mathlib.Omega.{arith}
-use borrow.Author.Tests.{not-false}
 use Rattle.bitset.specs.Bits.{count}
-use Rattle.node.proofs.Grounding.{Rising, rising_none, left_below, left_less, rising_held, rising_found, rising_all}
-use Rattle.node.proofs.Told.{said_yes}
+use Rattle.node.proofs.Grounding.{Rising}
 use Rattle.node.proofs.grounded.risen.Given as goal
 
 abbrev pub invariant-loop-rest : goal.invariant-loop-rest

@@ -1,6 +1,4 @@
 -- `node::grounded::ungrounded` meets its contract, whatever the ground: what a round promises where it adds nothing is enough. The measure is the number of rounds left.
-use borrow.Author.Rules.{rules}
-use Prim.Native.Nat.{◌-◌, ◌^◌, ◌<◌}
 use native.Mathlib.Omega.{arith}
 use Rattle.node.proofs.Grounding.{hangs_none, hangs_held}
 use Rattle.node.proofs.grounded.ungrounded.Goals as goal

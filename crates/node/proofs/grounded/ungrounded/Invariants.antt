@@ -1,7 +1,5 @@
 -- `node::grounded::ungrounded` meets its contract, whatever the ground: what a round promises where it adds nothing is enough. The measure is the number of rounds left.
 use Prim.Native.Nat.{◌-◌, ◌^◌, ◌<◌}
-use native.Mathlib.Omega.{arith}
-use Rattle.node.proofs.Grounding.{hangs_none, hangs_held}
 use Rattle.node.proofs.grounded.ungrounded.Given as goal
 
 abbrev pub invariant-loop-round : goal.invariant-loop-round

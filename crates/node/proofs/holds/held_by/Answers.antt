@@ -1,5 +1,4 @@
 -- `node::holds::held_by` meets its contract: without its lowest member a set is empty exactly if it had no other.
-use borrow.Author.Rules.{rules}
 use mathlib.Core.Path.{refl}
 use native.Mathlib.Omega.{arith}
 use Rattle.bitset.proofs.Sets.{member_below}

@@ -1,12 +1,7 @@
 -- `node::narrow::narrow` meets its contract: the rounds so far have dropped nothing that a plan that is sought has.
-use mathlib.Core.Path.{refl}
 use Prim.Native.Nat.{◌-◌}
-use native.Mathlib.Omega.{arith}
 use Rattle.catalogue.specs.Survey.{tabled}
-use Rattle.node.proofs.Narrowing.{Rounded, rounded_on, rounded_from, narrowed_none}
-use Rattle.node.proofs.narrow.narrow.Reads as reads
-use Rattle.node.proofs.narrow.once.Reads as once-reads
-use Rattle.node.proofs.narrow.same.Reads as same_Reads
+use Rattle.node.proofs.Narrowing.{Rounded}
 use Rattle.node.proofs.narrow.narrow.Given as goal
 
 abbrev pub invariant-loop-round : goal.invariant-loop-round

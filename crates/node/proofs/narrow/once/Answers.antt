@@ -1,11 +1,5 @@
 -- `node::narrow::once` meets its contract.
-use borrow.Author.Rules.{rules}
 use Rattle.node.proofs.Narrowing.{settled_then, narrowed_by, narrowed_then, ready_more}
-use Rattle.node.proofs.narrow.once.Reads as reads
-use Rattle.node.proofs.afford.afford.Reads as afford-reads
-use Rattle.node.proofs.narrow.same.Reads as same_Reads
-use Rattle.node.proofs.narrow.sorted_out.Reads as sorted-out-reads
-use Rattle.node.proofs.narrow.walked_through.Reads as walked-through-reads
 use Rattle.node.proofs.narrow.once.Goals as goal
 
 pub returns-then-not-sorts : goal.returns-then-not-sorts

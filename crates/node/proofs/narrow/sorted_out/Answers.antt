@@ -1,9 +1,5 @@
 -- `node::narrow::sorted_out` meets its contract.
-use borrow.Author.Rules.{rules}
 use Rattle.node.proofs.Narrowing.{settled_then, settled_tabled}
-use Rattle.node.proofs.narrow.sorted_out.Reads as reads
-use Rattle.node.proofs.clash_ban.clash_banned.Reads as clash-banned-reads
-use Rattle.node.proofs.settle.settle.Reads as settle-reads
 use Rattle.node.proofs.narrow.sorted_out.Goals as goal
 
 pub returns-then-not-alive : goal.returns-then-not-alive

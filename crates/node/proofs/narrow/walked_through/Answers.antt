@@ -1,10 +1,5 @@
 -- `node::narrow::walked_through` meets its contract.
-use borrow.Author.Rules.{rules}
 use Rattle.node.proofs.Narrowing.{settled_then}
-use Rattle.node.proofs.narrow.walked_through.Reads as reads
-use Rattle.node.proofs.forced_arrows.forced_arrows.Reads as forced-arrows-reads
-use Rattle.node.proofs.grounded.grounded.Reads as grounded-reads
-use Rattle.node.proofs.within_reach.within_reach.Reads as within-reach-reads
 use Rattle.node.proofs.narrow.walked_through.Goals as goal
 
 pub returns-then-not-stands : goal.returns-then-not-stands

@@ -1,5 +1,4 @@
 -- `node::order::ahead` meets its contract: the lower cost is ahead, and where neither cost is lower the tables decide.
-use borrow.Author.Rules.{rules}
 use mathlib.Core.Logic.{inl}
 use Rattle.node.proofs.Preceding.{not_ahead, ahead_by_tables}
 use Rattle.node.proofs.Told.{told_yes, told_no, said_yes, said_no}

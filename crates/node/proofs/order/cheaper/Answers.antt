@@ -1,5 +1,4 @@
 -- `node::order::cheaper` meets its contract: the first number that differs decides.
-use borrow.Author.Rules.{rules}
 use Rattle.node.proofs.Preceding.{by_first, by_second, by_third}
 use Rattle.node.proofs.order.cheaper.Goals as goal
 

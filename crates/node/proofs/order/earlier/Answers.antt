@@ -1,11 +1,9 @@
 -- `node::order::earlier` meets its contract: the tables are alike up to `i`, so that the first difference, or the end of either, decides.
 use borrow.Author.Rules.{rules}
-use Prim.Native.Nat.{◌≤◌, ◌-◌}
 use mathlib.Core.Logic.{inl, inr}
 use native.Mathlib.Omega.{arith}
 use borrow.Author.Count.{below_none, below_more}
-use lib.ListN.{length}
-use Rattle.node.proofs.Compared.{Alike, earlier_at, not_earlier_at, not_earlier_end}
+use Rattle.node.proofs.Compared.{earlier_at, not_earlier_at, not_earlier_end}
 use Rattle.node.proofs.Told.{told_yes, told_no}
 use Rattle.node.proofs.order.earlier.Goals as goal
 

@@ -1,13 +1,6 @@
 -- `node::settle::settle_entry` meets its contract: the slots before `s` are settled.
-use borrow.Author.Rules.{rules}
-use mathlib.Core.List.{List}
-use Prim.Native.Nat.{ℕ, ◌-◌, ◌≤◌}
 use native.Mathlib.Omega.{arith}
-use Rattle.node.specs.declared.Node.{Node}
-use Rattle.node.specs.Settling.{SlotsOf, SettledBy}
 use Rattle.node.proofs.Settling.{settled_more}
-use Rattle.node.proofs.settle.settle_entry.Reads as reads
-use Rattle.node.proofs.settle.settle_slot.Reads as settle-slot-reads
 use Rattle.node.proofs.settle.settle_entry.Goals as goal
 
 pub loop-s-init : goal.loop-s-init

@@ -1,12 +1,8 @@
 -- `node::settle::settle_entry` meets its contract: the slots before `s` are settled.
 use mathlib.Core.List.{List}
 use Prim.Native.Nat.{ℕ, ◌-◌, ◌≤◌}
-use native.Mathlib.Omega.{arith}
 use Rattle.node.specs.declared.Node.{Node}
 use Rattle.node.specs.Settling.{SlotsOf, SettledBy}
-use Rattle.node.proofs.Settling.{settled_more}
-use Rattle.node.proofs.settle.settle_entry.Reads as reads
-use Rattle.node.proofs.settle.settle_slot.Reads as settle-slot-reads
 use Rattle.node.proofs.settle.settle_entry.Given as goal
 
 abbrev pub invariant-loop-s : goal.invariant-loop-s

@@ -1,5 +1,4 @@
 -- `node::settle::settle_slot` meets its contract: each answer is told by the number of choices left and by whether the owner must be there.
-use borrow.Author.Rules.{rules}
 use Rattle.node.proofs.Few.{of_nothing, of_one}
 use Rattle.node.proofs.Settling.{slot_same, slot_dead, slot_banned, slot_forced}
 use Rattle.node.proofs.Told.{said_yes}

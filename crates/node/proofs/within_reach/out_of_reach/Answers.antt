@@ -1,10 +1,8 @@
 -- `node::within_reach::out_of_reach` meets its contract. The loop's invariant: the reach has all that must be there, and the choices of each entry passed. The measure is
 -- the number of entries not passed.
-use borrow.Author.Rules.{rules}
-use Prim.Native.Nat.{◌+◌, ◌-◌}
+use Prim.Native.Nat.{◌+◌}
 use native.Mathlib.Omega.{arith}
-use Rattle.bitset.specs.Bits.{count}
-use Rattle.node.proofs.Reaching.{Grown, grown_none, grown_more, left_below, left_less, out_rest}
+use Rattle.node.proofs.Reaching.{grown_none, grown_more, left_below, left_less, out_rest}
 use Rattle.node.proofs.within_reach.out_of_reach.Goals as goal
 
 pub loop-reach-init : goal.loop-reach-init

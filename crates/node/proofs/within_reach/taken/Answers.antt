@@ -1,8 +1,5 @@
 -- `node::within_reach::taken` meets its contract. The loop's invariant: the choices of the slots before `s` are taken. The measure is the number of slots left.
-use borrow.Author.Rules.{rules}
-use Prim.Native.Nat.{◌-◌}
 use native.Mathlib.Omega.{arith}
-use Rattle.node.specs.Reaching.{Taken}
 use Rattle.node.proofs.Reaching.{taken_none, taken_more, taken_all}
 use Rattle.node.proofs.within_reach.taken.Goals as goal
 

@@ -1,8 +1,6 @@
 -- `node::within_reach::taken` meets its contract. The loop's invariant: the choices of the slots before `s` are taken. The measure is the number of slots left.
 use Prim.Native.Nat.{◌-◌}
-use native.Mathlib.Omega.{arith}
 use Rattle.node.specs.Reaching.{Taken}
-use Rattle.node.proofs.Reaching.{taken_none, taken_more, taken_all}
 use Rattle.node.proofs.within_reach.taken.Given as goal
 
 abbrev pub invariant-loop-s : goal.invariant-loop-s

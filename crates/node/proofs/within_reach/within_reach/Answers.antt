@@ -1,5 +1,4 @@
 -- `node::within_reach::within_reach` meets its contract: what is banned is in no plan, and the choices are left as they are.
-use borrow.Author.Rules.{rules}
 use mathlib.Core.Path.{refl}
 use Rattle.node.proofs.Banning.{settled_banned}
 use Rattle.node.proofs.Slotted.{tabled_slotted}

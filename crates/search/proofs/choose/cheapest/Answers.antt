@@ -1,11 +1,6 @@
 -- `search::choose::cheapest` meets its contract: the best so far is one of the choices.
-use borrow.Author.Rules.{rules}
 use native.Mathlib.Omega.{arith}
-use Rattle.bitset.specs.Bits.{count}
-use Rattle.bitset.proofs.lowest.Reads as lowest-reads
-use Rattle.bitset.proofs.without.Reads as without-reads
-use Rattle.search.proofs.Choosing.{Choosing, choosing_start, choice_below, choosing_less, best_below, choosing_same, choosing_new}
-use Rattle.search.proofs.choose.cheapest.Reads as reads
+use Rattle.search.proofs.Choosing.{choosing_start, choice_below, choosing_less, best_below, choosing_same, choosing_new}
 use Rattle.search.proofs.choose.cheapest.Goals as goal
 
 pub loop-rest-init : goal.loop-rest-init

@@ -1,9 +1,5 @@
 -- `search::choose::choose` meets its contract.
-use borrow.Author.Rules.{rules}
-use Rattle.bitset.proofs.lowest.Reads as lowest-reads
 use Rattle.search.proofs.Choosing.{met_chosen}
-use Rattle.search.proofs.choose.choose.Reads as reads
-use Rattle.search.proofs.choose.cheapest.Reads as cheapest-reads
 use Rattle.search.proofs.choose.choose.Goals as goal
 
 pub returns-then-met-ne0 : goal.returns-then-met-ne0

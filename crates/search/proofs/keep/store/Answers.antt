@@ -1,10 +1,7 @@
 -- `search::keep::store` meets its contract: what is before i is copied.
-use borrow.Author.Rules.{rules}
 use mathlib.Core.Path.{sym, ◌∙◌}
-use Prim.Native.Nat.{◌-◌}
 use native.Mathlib.Omega.{arith}
-use lib.ListN.{length}
-use Rattle.search.proofs.Copying.{Copied, copied_none, copied_more, copied_all}
+use Rattle.search.proofs.Copying.{copied_none, copied_more, copied_all}
 use Rattle.search.proofs.keep.store.Goals as goal
 
 pub loop-i-init : goal.loop-i-init

@@ -1,14 +1,11 @@
 -- `search::least::above` meets its contract.
-use borrow.Author.Rules.{rules}
 use mathlib.Core.List.{[]}
 use Prim.Native.Nat.{ℕ, ◌+◌, ◌-◌, ◌*◌, ◌≤◌, ◌<◌, ◌^◌}
 use lib.ListN.{get_or}
 use native.Mathlib.Omega.{arith}
 use Rattle.catalogue.specs.Survey.{tabled}
-use Rattle.plan.proofs.costs.weight.Reads as weight-reads
 use Rattle.price.proofs.Worth.{light}
 use Rattle.search.proofs.Rounds.{above_all}
-use Rattle.search.proofs.least.above.Reads as reads
 use Rattle.search.proofs.least.above.Goals.{After-weight}
 use Rattle.search.proofs.least.above.Goals as goal
 
@@ -18,7 +15,7 @@ light_each c e = omega (arith, c.type_inv.entries (e * 5 + 4))
 heavy : (c : After-weight) → c.weight.result < 4194304
 heavy c =
     rw (c.weight.ensures [] [] [] (record { root = 0; mode = 0; cycles = 0 }))
-    (light (tabled c.args.entries.now [] (record { root = 0; mode = 0; cycles = 0 }) [] []) (2 ^ 64 - 1 - 0) (record { c.args.entries.now = c.requires; weight = light_each c }))
+    (light (tabled c.args.entries.now [] (record { root = 0; mode = 0; cycles = 0 }) [] []) (2 ^ 64 - 1 - 0) (record { entries = c.requires; weight = light_each c }))
 
 pub overflow_add-result : goal.overflow_add-result
 overflow_add-result c = omega (arith, heavy (goal.at.overflow_add-result c).After-weight)

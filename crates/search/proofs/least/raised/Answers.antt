@@ -1,9 +1,7 @@
 -- `search::least::raised` meets its contract.
-use borrow.Author.Rules.{rules}
 use mathlib.Core.Path.{refl}
 use mathlib.Core.Logic.{inl, inr}
 use native.Mathlib.Omega.{arith}
-use Rattle.search.proofs.least.raised.Reads as reads
 use Rattle.search.proofs.least.raised.Goals as goal
 
 pub returns-then-top-bound : goal.returns-then-top-bound

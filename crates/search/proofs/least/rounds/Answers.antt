@@ -1,13 +1,7 @@
 -- `search::least::rounds` meets its contract: no round so far has found a plan, and the buffer is as it was.
-use borrow.Author.Rules.{rules}
-use mathlib.Core.Path.{◌≡◌, refl, ap, ◌∙◌}
-use Prim.Native.Nat.{◌+◌, ◌-◌, ◌≤◌}
+use mathlib.Core.Path.{refl}
 use native.Mathlib.Omega.{arith}
-use lib.ListN.{length}
 use Rattle.search.proofs.Rounds.{found_in_round, none_in_round, found_at_last, risen, posed_again}
-use Rattle.search.proofs.least.raised.Reads as raised-reads
-use Rattle.search.proofs.least.round.Reads as round-reads
-use Rattle.search.proofs.least.rounds.Reads as reads
 use Rattle.search.proofs.least.rounds.Goals as goal
 
 pub loop-settings-init : goal.loop-settings-init
@@ -15,24 +9,21 @@ loop-settings-init c = (refl, (omega arith, omega arith))
 
 pub round-best-requires : goal.round-best-requires
 round-best-requires c =
-    (posed_again c.loop-settings.invariant.0 c.requires.0, (c.requires.1.0, (c.requires.1.1.1.1.0, c.requires.1.1.1.1.1)))
-
-pub shape_of-plan-then-best : goal.shape_of-plan-then-best
-shape_of-plan-then-best c = c.round-best.auto.1.1.1.1.1.1.1.1.1.1.1.0 ∙ ap length c.loop-settings.invariant.0
+    record {
+      fact_1 = posed_again c.loop-settings.invariant.0 c.requires.fact_1;
+      fact_2 = (c.requires.fact_2.0, (c.requires.fact_2.1.1.1.0, c.requires.fact_2.1.1.1.1));
+    }
 
 pub returns-then-best : goal.returns-then-best
 returns-then-best c = found_in_round c.loop-settings.invariant.0 c.if-best.true c.round-best.ensures
 
-pub shape_of-plan-then-bound-top : goal.shape_of-plan-then-bound-top
-shape_of-plan-then-bound-top c = c.round-best.auto.1.1.1.1.1.1.1.1.1.1.1.0 ∙ ap length c.loop-settings.invariant.0
-
 pub returns-then-bound-top : goal.returns-then-bound-top
-returns-then-bound-top c = found_at_last c.requires.1.1.1.0 c.if-bound-top.true c.loop-settings.invariant.0 c.round-best.ensures
+returns-then-bound-top c = found_at_last c.requires.fact_2.1.1.0 c.if-bound-top.true c.loop-settings.invariant.0 c.round-best.ensures
 
 pub overflow_mul-more : goal.overflow_mul-more
 overflow_mul-more c =
     let up = risen _ _ c.raised-bound.ensures c.if-bound-top.false in
-    omega (arith, up.0, up.1, c.requires.1.1.0)
+    omega (arith, up.0, up.1, c.requires.fact_2.1.0)
 
 pub loop-settings-smaller : goal.loop-settings-smaller
 loop-settings-smaller c =

@@ -1,12 +1,6 @@
 -- `search::least::rounds` meets its contract: no round so far has found a plan, and the buffer is as it was.
-use mathlib.Core.Path.{◌≡◌, refl, ap, ◌∙◌}
+use mathlib.Core.Path.{◌≡◌}
 use Prim.Native.Nat.{◌+◌, ◌-◌, ◌≤◌}
-use native.Mathlib.Omega.{arith}
-use lib.ListN.{length}
-use Rattle.search.proofs.Rounds.{found_in_round, none_in_round, found_at_last, risen, posed_again}
-use Rattle.search.proofs.least.raised.Reads as raised-reads
-use Rattle.search.proofs.least.round.Reads as round-reads
-use Rattle.search.proofs.least.rounds.Reads as reads
 use Rattle.search.proofs.least.rounds.Given as goal
 
 abbrev pub invariant-loop-settings : goal.invariant-loop-settings

@@ -1,12 +1,12 @@
 -- `search::pick_slot::pick` meets its contract: of the slots before `s` an open one leads, or there is nothing to do at any of them.
 use borrow.Author.Rules.{rules}
 use mathlib.Core.Path.{◌≡◌, refl}
-use mathlib.Core.Logic.{⊎_elim}
-use Prim.Native.Nat.{ℕ, ◌≤◌, ◌-◌, ◌*◌}
+use Prim.Native.Nat.{ℕ, ◌*◌}
 use native.Mathlib.Omega.{arith}
 use Rattle.search.specs.declared.pick_slot.Standing.TheVariants.{Open, Narrow, Stuck}
-use Rattle.search.proofs.Leading.{Led, led_none, led_quiet, led_open, led_split, led_complete}
+use Rattle.search.proofs.Leading.{led_none, led_quiet, led_open, led_split, led_complete}
 use Rattle.search.proofs.Slots.{quiet, picked_at}
+use Rattle.search.proofs.pick_slot.pick.Goals.{in-Fine, in-Open}
 use Rattle.search.proofs.pick_slot.pick.Goals as goal
 
 pub loop-s-init : goal.loop-s-init
@@ -55,14 +55,14 @@ loop-s-smaller c = omega arith
 pub loop-s-preserved : goal.loop-s-preserved
 loop-s-preserved c = (
   omega arith,
-  ⊎_elim
-      (λ w. rw w.2 (led_quiet _ _ _ c.loop-s.invariant.1 (quiet c.look_at.ensures w.1.given.1)))
-      (λ w.
-      rw w.5
-      (led_open _ _ _ c.loop-s.invariant.1
-      (picked_at _ _ _ c.loop-s-test.true c.look_at.ensures Open w.1.given.1 (λ e. let z : ◌≡◌ {A = ℕ} 0 1 = cc in omega arith))
-      w.4.ensures))
-      c.match-look_at.branch,
+  elim c.match-look_at.branch [
+    | in-Fine w ↦ rw w.best-is (led_quiet _ _ _ c.loop-s.invariant.1 (quiet c.look_at.ensures w.in-Fine.is))
+    | in-Open w ↦
+        rw w.best-is
+        (led_open _ _ _ c.loop-s.invariant.1
+        (picked_at _ _ _ c.loop-s-test.true c.look_at.ensures Open w.in-Open.is (λ e. let z : ◌≡◌ {A = ℕ} 0 1 = cc in omega arith))
+        w.leading-best.ensures)
+  ],
 )
 
 pub returns-then-best : goal.returns-then-best

@@ -1,8 +1,6 @@
 -- `search::rank::dearness` returns: the loop walks through the choices.
-use borrow.Author.Rules.{rules}
 use native.Mathlib.Omega.{arith}
-use Rattle.bitset.specs.Bits.{count}
-use Rattle.plan.proofs.MemberWalk.{Walked, walk_start, walk_less, walk_on}
+use Rattle.plan.proofs.MemberWalk.{walk_start, walk_less, walk_on}
 use Rattle.plan.proofs.Subsets.{lowest_below}
 use Rattle.search.proofs.rank.dearness.Goals as goal
 

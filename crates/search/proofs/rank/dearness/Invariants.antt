@@ -1,8 +1,6 @@
 -- `search::rank::dearness` returns: the loop walks through the choices.
-use native.Mathlib.Omega.{arith}
 use Rattle.bitset.specs.Bits.{count}
-use Rattle.plan.proofs.MemberWalk.{Walked, walk_start, walk_less, walk_on}
-use Rattle.plan.proofs.Subsets.{lowest_below}
+use Rattle.plan.proofs.MemberWalk.{Walked}
 use Rattle.search.proofs.rank.dearness.Given as goal
 
 abbrev pub invariant-loop-rest : goal.invariant-loop-rest

@@ -1,5 +1,4 @@
 -- `search::rank::leading` meets its contract.
-use borrow.Author.Rules.{rules}
 use mathlib.Core.Path.{refl}
 use mathlib.Core.Logic.{inl, inr}
 use Rattle.search.proofs.rank.leading.Goals as goal

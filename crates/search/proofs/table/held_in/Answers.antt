@@ -1,5 +1,4 @@
 -- `search::table::held_in` meets its contract: the lowest choice is the only one, where there is just one.
-use borrow.Author.Rules.{rules}
 use mathlib.Core.Path.{refl}
 use native.Mathlib.Omega.{arith}
 use Rattle.node.proofs.Few.{lowest_fits, lowest_only}

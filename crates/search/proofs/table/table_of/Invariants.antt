@@ -1,12 +1,9 @@
 -- `search::table::table_of` meets its contract: what is stored for each slot before `s` is what `held_in` says.
-use mathlib.Core.Path.{◌≡◌, refl}
-use Prim.Native.Nat.{ℕ, ◌≤◌, ◌<◌, ◌-◌, ◌*◌}
-use native.Mathlib.Omega.{arith}
-use borrow.Author.Count.{below_none}
-use lib.ListN.{length, get_or, length-set}
+use mathlib.Core.Path.{◌≡◌}
+use Prim.Native.Nat.{ℕ, ◌≤◌, ◌<◌, ◌-◌}
+use lib.ListN.{length, get_or}
 use Rattle.pacsolve.specs.Plan.{none}
 use Rattle.catalogue.specs.Spans.{owner_in}
-use Rattle.node.proofs.Stores.{stored_more}
 use Rattle.search.specs.Picks.{Entered}
 use Rattle.search.proofs.table.table_of.Given as goal
 

@@ -1,10 +1,5 @@
 -- `search::walk::halve` meets its contract.
-use borrow.Author.Rules.{rules}
-use Rattle.bitset.proofs.with.Reads as with-reads
-use Rattle.bitset.proofs.without.Reads as without-reads
 use Rattle.search.proofs.Halves.{parted}
-use Rattle.search.proofs.walk.halve.Reads as reads
-use Rattle.search.proofs.choose.choose.Reads as choose-reads
 use Rattle.search.proofs.walk.halve.Goals as goal
 
 pub returns : goal.returns
