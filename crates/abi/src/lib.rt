@@ -29,8 +29,8 @@ fn put_cost(its: Cost, cost: &mut [u32])
 
 // An answer of first, next or turn put into its slices.
 fn hand_out(answer: Answer, set: &mut [u64], cost: &mut [u32]) -> u8
-    requires fact_1 { length set.old ≡ 1 }
-    requires fact_2 { length cost.old ≡ 3 }
+    requires set_sized { length set.old ≡ 1 }
+    requires cost_sized { length cost.old ≡ 3 }
     ensures { (result ≡ number_of answer) × ((set.new ≡ set_of answer ∷ []) × (cost.new ≡ three (cost_of answer))) }
 {
     match answer {
@@ -153,8 +153,8 @@ pub extern "C" fn boxplan_fits(
 
 // A check's answer put into its slices.
 fn hand_checked(checked: Checked, condition: &mut [u8], cost: &mut [u32]) -> u8
-    requires fact_1 { length condition.old ≡ 1 }
-    requires fact_2 { length cost.old ≡ 3 }
+    requires condition_sized { length condition.old ≡ 1 }
+    requires cost_sized { length cost.old ≡ 3 }
     ensures { (result ≡ checked_number checked) × ((condition.new ≡ condition_of checked ∷ []) × (cost.new ≡ three (checked_cost checked))) }
 {
     let none = Cost {
@@ -211,8 +211,8 @@ pub extern "C" fn boxplan_check(
 
 // The record as it then is put into its slices.
 fn hand_back(listing: ListingRecord, stage: &mut [u8], last: &mut [u64])
-    requires fact_1 { length stage.old ≡ 1 }
-    requires fact_2 { length last.old ≡ 1 }
+    requires stage_sized { length stage.old ≡ 1 }
+    requires last_sized { length last.old ≡ 1 }
     ensures { (stage.new ≡ listing.stage ∷ []) × (last.new ≡ listing.last ∷ []) }
 {
     stage[0] = listing.stage;

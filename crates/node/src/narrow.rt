@@ -126,8 +126,8 @@ pub fn narrow(
     scale: Scale,
     price: &mut [u64; 64],
 ) -> Node
-    requires fact_1 { Ready (tabled entries.now slots.now settings objectives.now fits.now) given past.now node best plan.now }
-    requires fact_2 { Facts entries.now slots.now objectives.now settings.mode clash.now alike.now base.now first.now scale }
+    requires ready { Ready (tabled entries.now slots.now settings objectives.now fits.now) given past.now node best plan.now }
+    requires facts { Facts entries.now slots.now objectives.now settings.mode clash.now alike.now base.now first.now scale }
     ensures { Narrowed (tabled entries.now slots.now settings objectives.now fits.now) given past.now best plan.now node choices.old result choices.new }
 {
     let mut at = Node {

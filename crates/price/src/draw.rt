@@ -95,8 +95,8 @@ fn pay_entry(
     end: usize,
     choices: &[u64; 256],
 ) -> u64
-    requires fact_1 { Low price.old }
-    requires fact_2 { end ≤ 256 }
+    requires low { Low price.old }
+    requires end_bound { end ≤ 256 }
     ensures { Drawn (ServesSpan start end choices.now) price.old price.new result }
 {
     let mut sum: u64 = 0;
@@ -110,8 +110,8 @@ fn pay_entry(
 
 // Draws for each slot of what must be there.
 pub fn pay_slots(price: &mut [u64; 64], first: &[usize; 65], must: u64, choices: &[u64; 256]) -> u64
-    requires fact_1 { Low price.old }
-    requires fact_2 { Bounded first.now }
+    requires low { Low price.old }
+    requires bounded { Bounded first.now }
     ensures { Drawn (Serves first.now must choices.now) price.old price.new result }
 {
     let mut sum: u64 = 0;

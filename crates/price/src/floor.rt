@@ -26,8 +26,8 @@ pub fn lay(
     choices: &[u64; 256],
     price: &mut [u64; 64],
 ) -> Ground
-    requires fact_1 { (length alike.now ≡ 64) × Moderate base.now scale }
-    requires fact_2 { Bounded first.now }
+    requires moderate { (length alike.now ≡ 64) × Moderate base.now scale }
+    requires bounded { Bounded first.now }
     ensures { Floors alike.now base.now scale first.now must choices.now price.new result }
 {
     let known = packages_of(must, alike);

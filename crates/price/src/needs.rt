@@ -17,8 +17,8 @@ struct Reach {
 
 // The choices of the first slot of e that meet the row, and 0 where there is none.
 fn slot_for(first: &[usize; 65], choices: &[u64; 256], e: u32, row: u64) -> u64
-    requires fact_1 { Bounded first.now }
-    requires fact_2 { e < 64 }
+    requires bounded { Bounded first.now }
+    requires e_small { e < 64 }
     ensures { SlotOf first.now choices.now e result }
 {
     let i = e as usize;
@@ -97,9 +97,9 @@ fn note_slots(
     e: u32,
     reach: Reach,
 ) -> Reach
-    requires fact_1 { Bounded first.now }
-    requires fact_2 { (e < 64) × Member must e }
-    requires fact_3 { Waiting first.now must choices.now queue.old reach.count }
+    requires bounded { Bounded first.now }
+    requires member { (e < 64) × Member must e }
+    requires waiting { Waiting first.now must choices.now queue.old reach.count }
     ensures { Waiting first.now must choices.now queue.new result.count }
 {
     let i = e as usize;
@@ -122,8 +122,8 @@ fn note_all(
     must: u64,
     choices: &[u64; 256],
 ) -> Reach
-    requires fact_1 { Bounded first.now }
-    requires fact_2 { length queue.old ≡ 64 }
+    requires bounded { Bounded first.now }
+    requires queue_sized { length queue.old ≡ 64 }
     ensures { Waiting first.now must choices.now queue.new result.count }
 {
     let mut found = Reach {
@@ -164,9 +164,9 @@ fn follow(
     its: u64,
     reach: Reach,
 ) -> Reach
-    requires fact_1 { Bounded first.now }
-    requires fact_2 { (length price.old ≡ 64) × Needs first.now must choices.now group }
-    requires fact_3 { Waiting first.now must choices.now queue.old reach.count }
+    requires bounded { Bounded first.now }
+    requires needed { (length price.old ≡ 64) × Needs first.now must choices.now group }
+    requires waiting { Waiting first.now must choices.now queue.old reach.count }
     ensures drawn { Drawn (Closed first.now must choices.now) price.old price.new result.sum }
     ensures waiting { Waiting first.now must choices.now queue.new result.count }
 {
@@ -200,9 +200,9 @@ fn follow_all(
     group: u64,
     reach: Reach,
 ) -> Reach
-    requires fact_1 { Bounded first.now }
-    requires fact_2 { Low price.old × ((¬ (group ≡ 0)) × Needs first.now must choices.now group) }
-    requires fact_3 { Waiting first.now must choices.now queue.old reach.count }
+    requires bounded { Bounded first.now }
+    requires needed { Low price.old × ((¬ (group ≡ 0)) × Needs first.now must choices.now group) }
+    requires waiting { Waiting first.now must choices.now queue.old reach.count }
     ensures drawn { Drawn (Closed first.now must choices.now) price.old price.new result.sum }
     ensures waiting { Waiting first.now must choices.now queue.new result.count }
 {
@@ -231,8 +231,8 @@ pub fn pay_needs(
     must: u64,
     choices: &[u64; 256],
 ) -> u64
-    requires fact_1 { Low price.old }
-    requires fact_2 { Bounded first.now }
+    requires low { Low price.old }
+    requires bounded { Bounded first.now }
     ensures { Drawn (Closed first.now must choices.now) price.old price.new result }
 {
     let mut queue = [0u64; 64];

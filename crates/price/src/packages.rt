@@ -76,8 +76,8 @@ pub fn raised(base: &[u64; 64], known: u64, double: u64) -> [u64; 64]
 
 // The prices of all entries.
 pub fn base_prices(entries: &[u16], objectives: &[u8], scale: Scale) -> [u64; 64]
-    requires fact_1 { Small scale }
-    requires fact_2 { length entries.now / 5 ≤ 64 }
+    requires small { Small scale }
+    requires few { length entries.now / 5 ≤ 64 }
     ensures { BasePrices entries.now objectives.now scale result }
 {
     let n = entries.len() / 5;

@@ -37,8 +37,8 @@ pub fn keep(
     best: Best,
     plan: &mut [u8],
 ) -> Best
-    requires fact_1 { Ready (tabled entries.now slots.now settings objectives.now fits.now) given past.now node best plan.old }
-    requires fact_2 { Settles slots.now node.must choices.now }
+    requires ready { Ready (tabled entries.now slots.now settings objectives.now fits.now) given past.now node best plan.old }
+    requires settles { Settles slots.now node.must choices.now }
     ensures { Walked (tabled entries.now slots.now settings objectives.now fits.now) given past.now node choices.now best plan.old result plan.new }
 {
     let must = node.must;

@@ -66,8 +66,8 @@ fn start(
     scale: Scale,
     price: &mut [u64; 64],
 ) -> Node
-    requires fact_1 { Posed (tabled entries.now slots.now settings objectives.now fits.now) given past.now plan.now }
-    requires fact_2 { (left.old ≡ fits.now) × (Above (tabled entries.now slots.now settings objectives.now fits.now) top × Facts entries.now slots.now objectives.now settings.mode clash.now alike.now base.now first.now scale) }
+    requires posed { Posed (tabled entries.now slots.now settings objectives.now fits.now) given past.now plan.now }
+    requires facts { (left.old ≡ fits.now) × (Above (tabled entries.now slots.now settings objectives.now fits.now) top × Facts entries.now slots.now objectives.now settings.mode clash.now alike.now base.now first.now scale) }
     ensures { Whole (tabled entries.now slots.now settings objectives.now fits.now) (asked_of given past.now) result left.new × (length left.new ≡ length left.old) }
 {
     let root = settings.root as u32;
@@ -142,8 +142,8 @@ fn round(
     base: &[u64; 64],
     scale: Scale,
 ) -> Best
-    requires fact_1 { Posed (tabled entries.now slots.now settings objectives.now fits.now) given past.now plan.old }
-    requires fact_2 { (length left.now ≡ 256) × (Whole (tabled entries.now slots.now settings objectives.now fits.now) (asked_of given past.now) node left.now × Facts entries.now slots.now objectives.now settings.mode clash.now alike.now base.now first.now scale) }
+    requires posed { Posed (tabled entries.now slots.now settings objectives.now fits.now) given past.now plan.old }
+    requires whole { (length left.now ≡ 256) × (Whole (tabled entries.now slots.now settings objectives.now fits.now) (asked_of given past.now) node left.now × Facts entries.now slots.now objectives.now settings.mode clash.now alike.now base.now first.now scale) }
     ensures { FoundUnder (tabled entries.now slots.now settings objectives.now fits.now) (asked_of given past.now) (firstly bound) plan.old result plan.new }
 {
     let nothing = under(bound);
@@ -186,8 +186,8 @@ fn rounds(
     base: &[u64; 64],
     scale: Scale,
 ) -> Best
-    requires fact_1 { Posed (tabled entries.now slots.now settings objectives.now fits.now) given past.now plan.old }
-    requires fact_2 { (length left.now ≡ 256) × ((top ≤ 4194432) × (Above (tabled entries.now slots.now settings objectives.now fits.now) top × (Whole (tabled entries.now slots.now settings objectives.now fits.now) (asked_of given past.now) node left.now × Facts entries.now slots.now objectives.now settings.mode clash.now alike.now base.now first.now scale))) }
+    requires posed { Posed (tabled entries.now slots.now settings objectives.now fits.now) given past.now plan.old }
+    requires whole { (length left.now ≡ 256) × ((top ≤ 4194432) × (Above (tabled entries.now slots.now settings objectives.now fits.now) top × (Whole (tabled entries.now slots.now settings objectives.now fits.now) (asked_of given past.now) node left.now × Facts entries.now slots.now objectives.now settings.mode clash.now alike.now base.now first.now scale))) }
     ensures { Found (tabled entries.now slots.now settings objectives.now fits.now) (asked_of given past.now) plan.old result plan.new }
 {
     let mut bound = low;

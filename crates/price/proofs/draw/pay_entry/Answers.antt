@@ -13,7 +13,7 @@ pub bounds-choices-s : goal.bounds-choices-s
 bounds-choices-s c = omega arith
 
 pub overflow_add-sum : goal.overflow_add-sum
-overflow_add-sum c = omega (arith, c.loop-s.invariant.1.whole, c.pay_slot-sum.ensures.whole, c.requires.fact_1.1)
+overflow_add-sum c = omega (arith, c.loop-s.invariant.1.whole, c.pay_slot-sum.ensures.whole, c.requires.low.1)
 
 pub overflow_add-s : goal.overflow_add-s
 overflow_add-s c = omega arith

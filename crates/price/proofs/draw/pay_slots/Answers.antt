@@ -33,12 +33,12 @@ bounds-first-i-in-loop-rest c = omega (arith, small (goal.at.bounds-first-i-in-l
 
 pub pay_entry-sum-requires : goal.pay_entry-sum-requires
 pay_entry-sum-requires c = record {
-  fact_1 = (low_after c.requires.fact_1 c.loop-rest.invariant.1).0;
-  fact_2 = c.requires.fact_2 _ (omega (arith, small (goal.at.pay_entry-sum-requires c).After-lowest-e));
+  low = (low_after c.requires.low c.loop-rest.invariant.1).0;
+  end_bound = c.requires.bounded _ (omega (arith, small (goal.at.pay_entry-sum-requires c).After-lowest-e));
 }
 
 pub overflow_add-sum : goal.overflow_add-sum
-overflow_add-sum c = omega (arith, c.loop-rest.invariant.1.whole, c.pay_entry-sum.ensures.whole, c.requires.fact_1.1)
+overflow_add-sum c = omega (arith, c.loop-rest.invariant.1.whole, c.pay_entry-sum.ensures.whole, c.requires.low.1)
 
 pub loop-rest-smaller : goal.loop-rest-smaller
 loop-rest-smaller c =

@@ -10,7 +10,7 @@ use Rattle.price.proofs.floor.lay.Goals as goal
 -- the prices stay low
 raised_prices : (c : After-raised) → Low c.raised.result
 raised_prices c =
-    raised_low _ _ _ _ c.requires.fact_1.1.each c.requires.fact_1.1.small.double c.raised.ensures
+    raised_low _ _ _ _ c.requires.moderate.1.each c.requires.moderate.1.small.double c.raised.ensures
 
 prices_after_all : (c : After-pay_all-fixed) → Low c.raised.result → Low c.pay_all-fixed.new.price
 prices_after_all c low = (low_after low c.pay_all-fixed.ensures).0
@@ -24,14 +24,14 @@ pay_all-fixed-requires c = raised_prices (goal.at.pay_all-fixed-requires c).Afte
 pub pay_slots-shared-requires : goal.pay_slots-shared-requires
 pay_slots-shared-requires c =
     let at = goal.at.pay_slots-shared-requires c in
-    record { fact_1 = prices_after_all at.After-pay_all-fixed (raised_prices at.After-raised); fact_2 = c.requires.fact_2 }
+    record { low = prices_after_all at.After-pay_all-fixed (raised_prices at.After-raised); bounded = c.requires.bounded }
 
 pub pay_needs-beyond-requires : goal.pay_needs-beyond-requires
 pay_needs-beyond-requires c =
     let at = goal.at.pay_needs-beyond-requires c in
     record {
-      fact_1 = prices_after_slots at.After-pay_slots-shared (prices_after_all at.After-pay_all-fixed (raised_prices at.After-raised));
-      fact_2 = c.requires.fact_2;
+      low = prices_after_slots at.After-pay_slots-shared (prices_after_all at.After-pay_all-fixed (raised_prices at.After-raised));
+      bounded = c.requires.bounded;
     }
 
 pub overflow_add-result : goal.overflow_add-result
@@ -41,15 +41,15 @@ pub overflow_add-result-2 : goal.overflow_add-result-2
 overflow_add-result-2 c = omega (arith, c.pay_all-fixed.ensures.whole, c.pay_slots-shared.ensures.whole, c.pay_needs-beyond.ensures.whole, (raised_prices (goal.at.overflow_add-result-2 c).After-raised).1)
 
 pub overflow_mul-result : goal.overflow_mul-result
-overflow_mul-result c = omega (arith, (credit_fits _ _ c.requires.fact_1.1.small c.packages_of-known.ensures.0).0)
+overflow_mul-result c = omega (arith, (credit_fits _ _ c.requires.moderate.1.small c.packages_of-known.ensures.0).0)
 
 pub overflow_add-result-3 : goal.overflow_add-result-3
-overflow_add-result-3 c = omega (arith, (credit_fits _ _ c.requires.fact_1.1.small c.packages_of-known.ensures.0).1)
+overflow_add-result-3 c = omega (arith, (credit_fits _ _ c.requires.moderate.1.small c.packages_of-known.ensures.0).1)
 
 pub returns : goal.returns
 returns c =
     laid
-    c.requires.fact_1.1
+    c.requires.moderate.1
     c.packages_of-known.ensures.1
     c.packages_of-known.ensures.0
     c.raised.ensures

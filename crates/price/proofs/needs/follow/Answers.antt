@@ -7,6 +7,6 @@ pub returns : goal.returns
 returns c =
     let leads = c.together-all.ensures.on c.if-all-eq0.false in
     record {
-      drawn = drawn_for (λ set q. leads set (c.requires.fact_2.1 set q.0 q.1) q.1) c.pay.ensures;
-      waiting = waiting_more c.requires.fact_3 c.put.ensures (λ set has serves. leads set (c.requires.fact_2.1 set has serves) serves);
+      drawn = drawn_for (λ set q. leads set (c.requires.needed.1 set q.0 q.1) q.1) c.pay.ensures;
+      waiting = waiting_more c.requires.waiting c.put.ensures (λ set has serves. leads set (c.requires.needed.1 set has serves) serves);
     }

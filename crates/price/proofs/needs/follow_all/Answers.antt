@@ -7,7 +7,7 @@ use Rattle.price.proofs.needs.follow_all.Goals.{After-lowest-i}
 use Rattle.price.proofs.needs.follow_all.Goals as goal
 
 small : (c : After-lowest-i) → c.lowest-i.result < 64
-small c = member_below 64 _ _ (omega arith) (c.lowest-i.ensures.some c.requires.fact_2.1.0).member
+small c = member_below 64 _ _ (omega arith) (c.lowest-i.ensures.some c.requires.needed.1.0).member
 
 pub overflow_cast-i : goal.overflow_cast-i
 overflow_cast-i c = omega (arith, small (goal.at.overflow_cast-i c).After-lowest-i)
@@ -28,27 +28,27 @@ pub bounds-first-i-2 : goal.bounds-first-i-2
 bounds-first-i-2 c = omega (arith, small (goal.at.bounds-first-i-2 c).After-lowest-i)
 
 pub loop-s-init : goal.loop-s-init
-loop-s-init c = (drawn_none _, c.requires.fact_3)
+loop-s-init c = (drawn_none _, c.requires.waiting)
 
 pub offset_bounds-choices-s : goal.offset_bounds-choices-s
-offset_bounds-choices-s c = omega (arith, c.requires.fact_1 (c.lowest-i.result + 1) (omega (arith, small (goal.at.offset_bounds-choices-s c).After-lowest-i)))
+offset_bounds-choices-s c = omega (arith, c.requires.bounded (c.lowest-i.result + 1) (omega (arith, small (goal.at.offset_bounds-choices-s c).After-lowest-i)))
 
 pub bounds-choices-s : goal.bounds-choices-s
-bounds-choices-s c = omega (arith, c.requires.fact_1 (c.lowest-i.result + 1) (omega (arith, small (goal.at.bounds-choices-s c).After-lowest-i)))
+bounds-choices-s c = omega (arith, c.requires.bounded (c.lowest-i.result + 1) (omega (arith, small (goal.at.bounds-choices-s c).After-lowest-i)))
 
 pub follow-more-requires : goal.follow-more-requires
 follow-more-requires c =
     record {
-      fact_1 = c.requires.fact_1;
-      fact_2 = ((low_after c.requires.fact_2.0 c.loop-s.invariant.0).0.0, c.requires.fact_2.1.1);
-      fact_3 = c.loop-s.invariant.1;
+      bounded = c.requires.bounded;
+      needed = ((low_after c.requires.needed.0 c.loop-s.invariant.0).0.0, c.requires.needed.1.1);
+      waiting = c.loop-s.invariant.1;
     }
 
 pub overflow_add-sum : goal.overflow_add-sum
-overflow_add-sum c = omega (arith, c.loop-s.invariant.0.whole, c.follow-more.ensures.drawn.whole, c.requires.fact_2.0.1)
+overflow_add-sum c = omega (arith, c.loop-s.invariant.0.whole, c.follow-more.ensures.drawn.whole, c.requires.needed.0.1)
 
 pub overflow_add-s : goal.overflow_add-s
-overflow_add-s c = omega (arith, c.requires.fact_1 (c.lowest-i.result + 1) (omega (arith, small (goal.at.overflow_add-s c).After-lowest-i)))
+overflow_add-s c = omega (arith, c.requires.bounded (c.lowest-i.result + 1) (omega (arith, small (goal.at.overflow_add-s c).After-lowest-i)))
 
 pub loop-s-smaller : goal.loop-s-smaller
 loop-s-smaller c = omega arith

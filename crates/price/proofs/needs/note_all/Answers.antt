@@ -11,14 +11,14 @@ small : (c : After-lowest-e) → c.lowest-e.result < 64
 small c = member_below 64 _ _ c.loop-rest.invariant.0.fits (c.lowest-e.ensures.some c.loop-rest-test.true).member
 
 pub loop-rest-init : goal.loop-rest-init
-loop-rest-init c = (walk_start _ (omega arith), waiting_none c.requires.fact_2)
+loop-rest-init c = (walk_start _ (omega arith), waiting_none c.requires.queue_sized)
 
 pub note_slots-found-requires : goal.note_slots-found-requires
 note_slots-found-requires c =
     record {
-      fact_1 = c.requires.fact_1;
-      fact_2 = (small (goal.at.note_slots-found-requires c).After-lowest-e, walk_at c.loop-rest.invariant.0 c.loop-rest-test.true c.lowest-e.ensures);
-      fact_3 = c.loop-rest.invariant.1;
+      bounded = c.requires.bounded;
+      member = (small (goal.at.note_slots-found-requires c).After-lowest-e, walk_at c.loop-rest.invariant.0 c.loop-rest-test.true c.lowest-e.ensures);
+      waiting = c.loop-rest.invariant.1;
     }
 
 pub loop-rest-smaller : goal.loop-rest-smaller

@@ -26,23 +26,23 @@ pub bounds-first-i-2 : goal.bounds-first-i-2
 bounds-first-i-2 c = omega arith
 
 pub loop-s-init : goal.loop-s-init
-loop-s-init c = (omega arith, c.requires.fact_3)
+loop-s-init c = (omega arith, c.requires.waiting)
 
 pub offset_bounds-choices-s : goal.offset_bounds-choices-s
-offset_bounds-choices-s c = omega (arith, c.requires.fact_1 (c.args.e + 1) (omega arith))
+offset_bounds-choices-s c = omega (arith, c.requires.bounded (c.args.e + 1) (omega arith))
 
 pub bounds-choices-s : goal.bounds-choices-s
-bounds-choices-s c = omega (arith, c.requires.fact_1 (c.args.e + 1) (omega arith))
+bounds-choices-s c = omega (arith, c.requires.bounded (c.args.e + 1) (omega arith))
 
 pub overflow_add-s : goal.overflow_add-s
-overflow_add-s c = omega (arith, c.requires.fact_1 (c.args.e + 1) (omega arith))
+overflow_add-s c = omega (arith, c.requires.bounded (c.args.e + 1) (omega arith))
 
 pub loop-s-smaller : goal.loop-s-smaller
 loop-s-smaller c = omega arith
 
 pub loop-s-preserved : goal.loop-s-preserved
 loop-s-preserved c =
-    (omega arith, waiting_more c.loop-s.invariant.1 c.note-found.ensures (λ set has serves. serves _ _ c.requires.fact_2.0 (has _ c.requires.fact_2.1) c.loop-s.invariant.0 c.loop-s-test.true))
+    (omega arith, waiting_more c.loop-s.invariant.1 c.note-found.ensures (λ set has serves. serves _ _ c.requires.member.0 (has _ c.requires.member.1) c.loop-s.invariant.0 c.loop-s-test.true))
 
 pub returns : goal.returns
 returns c = c.loop-s.invariant.1

@@ -15,13 +15,13 @@ bounds-queue-i c = omega (arith, c.loop-i.invariant.1.few)
 pub follow_all-more-requires : goal.follow_all-more-requires
 follow_all-more-requires c =
     record {
-      fact_1 = c.requires.fact_2;
-      fact_2 = ((low_after c.requires.fact_1 c.loop-i.invariant.0).0, c.loop-i.invariant.1.each _ c.loop-i-test.true);
-      fact_3 = c.loop-i.invariant.1;
+      bounded = c.requires.bounded;
+      needed = ((low_after c.requires.low c.loop-i.invariant.0).0, c.loop-i.invariant.1.each _ c.loop-i-test.true);
+      waiting = c.loop-i.invariant.1;
     }
 
 pub overflow_add-sum : goal.overflow_add-sum
-overflow_add-sum c = omega (arith, c.loop-i.invariant.0.whole, c.follow_all-more.ensures.drawn.whole, c.requires.fact_1.1)
+overflow_add-sum c = omega (arith, c.loop-i.invariant.0.whole, c.follow_all-more.ensures.drawn.whole, c.requires.low.1)
 
 pub overflow_add-i : goal.overflow_add-i
 overflow_add-i c = omega (arith, c.loop-i.invariant.1.few)

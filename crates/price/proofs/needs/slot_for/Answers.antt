@@ -23,16 +23,16 @@ pub loop-s-init : goal.loop-s-init
 loop-s-init c = omega arith
 
 pub offset_bounds-choices-s : goal.offset_bounds-choices-s
-offset_bounds-choices-s c = omega (arith, c.requires.fact_1 (c.args.e + 1) (omega arith))
+offset_bounds-choices-s c = omega (arith, c.requires.bounded (c.args.e + 1) (omega arith))
 
 pub bounds-choices-s : goal.bounds-choices-s
-bounds-choices-s c = omega (arith, c.requires.fact_1 (c.args.e + 1) (omega arith))
+bounds-choices-s c = omega (arith, c.requires.bounded (c.args.e + 1) (omega arith))
 
 pub returns-then-its-row-ne0 : goal.returns-then-its-row-ne0
 returns-then-its-row-ne0 c = record { some = λ n. (c.loop-s.s, c.loop-s.invariant, c.loop-s-test.true, refl) }
 
 pub overflow_add-s : goal.overflow_add-s
-overflow_add-s c = omega (arith, c.requires.fact_1 (c.args.e + 1) (omega arith))
+overflow_add-s c = omega (arith, c.requires.bounded (c.args.e + 1) (omega arith))
 
 pub loop-s-smaller : goal.loop-s-smaller
 loop-s-smaller c = omega arith

@@ -11,7 +11,7 @@ loop-rest-init c = walk_start _ (omega arith)
 
 pub slot_for-its-requires : goal.slot_for-its-requires
 slot_for-its-requires c =
-    record { fact_1 = c.requires; fact_2 = member_below 64 _ _ c.loop-rest.invariant.fits (c.lowest-e.ensures.some c.loop-rest-test.true).member }
+    record { bounded = c.requires; e_small = member_below 64 _ _ c.loop-rest.invariant.fits (c.lowest-e.ensures.some c.loop-rest-test.true).member }
 
 pub returns-then-its-eq0 : goal.returns-then-its-eq0
 returns-then-its-eq0 c = record { on = λ n. absurd (n refl) }

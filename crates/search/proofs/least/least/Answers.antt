@@ -21,7 +21,7 @@ pub clashes-clash-requires : goal.clashes-clash-requires
 clashes-clash-requires c = c.alikes-alike.ensures
 
 pub base_prices-base-requires : goal.base_prices-base-requires
-base_prices-base-requires c = record { fact_1 = scaled_small _ _ c.scale-units.ensures c.requires.apart; fact_2 = c.requires.entries }
+base_prices-base-requires c = record { small = scaled_small _ _ c.scale-units.ensures c.requires.apart; few = c.requires.entries }
 
 pub above-top-requires : goal.above-top-requires
 above-top-requires c = c.requires.entries
@@ -29,8 +29,8 @@ above-top-requires c = c.requires.entries
 pub start-node-requires : goal.start-node-requires
 start-node-requires c =
     record {
-      fact_1 = c.requires;
-      fact_2 = (refl, (c.above-top.ensures.1 c.args.slots.now c.args.objectives.now c.args.fits c.args.settings, known (goal.at.start-node-requires c).After-base_prices-base));
+      posed = c.requires;
+      facts = (refl, (c.above-top.ensures.1 c.args.slots.now c.args.objectives.now c.args.fits c.args.settings, known (goal.at.start-node-requires c).After-base_prices-base));
     }
 
 pub returns-then-not-alive : goal.returns-then-not-alive
@@ -44,7 +44,7 @@ pub rounds-requires : goal.rounds-requires
 rounds-requires c =
     let long = c.start-node.ensures.1 ∙ good_length (e_int w64) 256 c.args.fits _ c.well_formed.1.1.1.1.0 in
     record {
-      fact_1 = c.requires;
-      fact_2 =
+      posed = c.requires;
+      whole =
           (long, (c.above-top.ensures.0, (c.above-top.ensures.1 c.args.slots.now c.args.objectives.now c.args.fits c.args.settings, (c.start-node.ensures.0, known (goal.at.rounds-requires c).After-base_prices-base))));
     }

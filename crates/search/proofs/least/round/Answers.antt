@@ -5,8 +5,8 @@ use Rattle.search.proofs.least.round.Goals as goal
 
 pub walk-requires : goal.walk-requires
 walk-requires c =
-    (whole_ready _ _ _ _ c.requires.fact_1 _ c.under-nothing.ensures.0 _ _ c.requires.fact_2.1.0, (c.requires.fact_2.0, c.requires.fact_2.1.1))
+    (whole_ready _ _ _ _ c.requires.posed _ c.under-nothing.ensures.0 _ _ c.requires.whole.1.0, (c.requires.whole.0, c.requires.whole.1.1))
 
 pub returns : goal.returns
 returns c =
-    rw (sym c.under-nothing.ensures.1) (found_by _ _ _ _ c.requires.fact_1 _ c.under-nothing.ensures.0 _ _ c.requires.fact_2.1.0 _ _ c.walk.ensures)
+    rw (sym c.under-nothing.ensures.1) (found_by _ _ _ _ c.requires.posed _ c.under-nothing.ensures.0 _ _ c.requires.whole.1.0 _ _ c.walk.ensures)

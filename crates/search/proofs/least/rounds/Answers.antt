@@ -10,20 +10,20 @@ loop-settings-init c = (refl, (omega arith, omega arith))
 pub round-best-requires : goal.round-best-requires
 round-best-requires c =
     record {
-      fact_1 = posed_again c.loop-settings.invariant.0 c.requires.fact_1;
-      fact_2 = (c.requires.fact_2.0, (c.requires.fact_2.1.1.1.0, c.requires.fact_2.1.1.1.1));
+      posed = posed_again c.loop-settings.invariant.0 c.requires.posed;
+      whole = (c.requires.whole.0, (c.requires.whole.1.1.1.0, c.requires.whole.1.1.1.1));
     }
 
 pub returns-then-best : goal.returns-then-best
 returns-then-best c = found_in_round c.loop-settings.invariant.0 c.if-best.true c.round-best.ensures
 
 pub returns-then-bound-top : goal.returns-then-bound-top
-returns-then-bound-top c = found_at_last c.requires.fact_2.1.1.0 c.if-bound-top.true c.loop-settings.invariant.0 c.round-best.ensures
+returns-then-bound-top c = found_at_last c.requires.whole.1.1.0 c.if-bound-top.true c.loop-settings.invariant.0 c.round-best.ensures
 
 pub overflow_mul-more : goal.overflow_mul-more
 overflow_mul-more c =
     let up = risen _ _ c.raised-bound.ensures c.if-bound-top.false in
-    omega (arith, up.0, up.1, c.requires.fact_2.1.0)
+    omega (arith, up.0, up.1, c.requires.whole.1.0)
 
 pub loop-settings-smaller : goal.loop-settings-smaller
 loop-settings-smaller c =

@@ -13,7 +13,7 @@ pub loop-settings-init : goal.loop-settings-init
 loop-settings-init t c = loop_start _ _ _ _ _ _ _ c.requires.0 c.requires.1.0
 
 pub narrow-at-requires : goal.narrow-at-requires
-narrow-at-requires t c = record { fact_1 = c.loop-settings.invariant.ready; fact_2 = c.requires.1.1 }
+narrow-at-requires t c = record { ready = c.loop-settings.invariant.ready; facts = c.requires.1.1 }
 
 pub returns-then-not-alive : goal.returns-then-not-alive
 returns-then-not-alive t c = loop_dead _ _ _ _ _ _ _ _ _ _ _ c.loop-settings.invariant _ _ c.narrow-at.ensures c.if-not-alive.true
@@ -28,8 +28,8 @@ returns-in-Dead t c =
 
 pub keep-requires : goal.keep-requires
 keep-requires t c = record {
-  fact_1 = (loop_narrowed _ _ _ _ _ _ _ _ _ _ _ c.loop-settings.invariant _ _ c.narrow-at.ensures).ready;
-  fact_2 = picked_complete _ _ _ c.pick.result (ap which c.in-Complete.is) c.pick.ensures;
+  ready = (loop_narrowed _ _ _ _ _ _ _ _ _ _ _ c.loop-settings.invariant _ _ c.narrow-at.ensures).ready;
+  settles = picked_complete _ _ _ c.pick.result (ap which c.in-Complete.is) c.pick.ensures;
 }
 
 pub returns-in-Complete : goal.returns-in-Complete
