@@ -1,5 +1,6 @@
 // boxplan: reads a catalogue's text from standard input and writes its plans, or the refusal's number, to standard output.
 #![tactic(auto)]
+
 ghost use Rattle.std.specs.Prelude.{◌≤◌, length, IfOk};
 
 use std::io::{self, Read, Write};
