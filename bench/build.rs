@@ -1,4 +1,4 @@
-//! Links the archive of the C functions, which `rt staticlib abi` builds.
+//! Links the archive of the C functions, which `tools/build` makes.
 fn main() {
     let folder = std::path::Path::new(env!("CARGO_MANIFEST_DIR")).join("../target/staticlib");
     println!("cargo:rustc-link-search=native={}", folder.display());

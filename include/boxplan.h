@@ -1,5 +1,5 @@
 /* boxplan's calls for C: reading one constraint, checking a plan, listing plans, and reading a
- * catalogue from text. Link with target/staticlib/libabi.a, which `rt staticlib abi` makes.
+ * catalogue from text. Link with target/staticlib/libabi.a, which tools/build makes.
  *
  * SLICES. Every slice passes as a pointer and then its length, counted in elements, not bytes.
  * An empty slice may be a null pointer with length 0. No two slices that a call may write, and no

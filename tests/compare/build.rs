@@ -1,4 +1,4 @@
-//! Links the static library of the C functions, which `rt staticlib abi` makes.
+//! Links the static library of the C functions, which `tools/build` makes.
 
 use std::path::Path;
 
@@ -7,7 +7,7 @@ fn main() {
     let archive = folder.join("libabi.a");
     assert!(
         archive.exists(),
-        "there is no target/staticlib/libabi.a: make it with `rt staticlib abi`"
+        "there is no target/staticlib/libabi.a: make it with `tools/build`"
     );
     println!("cargo::rerun-if-changed={}", archive.display());
     println!("cargo::rustc-link-search=native={}", folder.display());

@@ -1,4 +1,4 @@
--- Why what is not in the ground is in no plan: each of it has a slot that can only name one of it again, so a plan with one of them would never come to an end.
+-- Why what is not in the footing is in no plan: each of it has a slot that can only name one of it again, so a plan with one of them would never come to an end.
 use mathlib.Core.Path.{◌≡◌, refl, ap, ◌∙◌}
 use mathlib.Core.Bool.{Bool}
 use mathlib.Core.List.{List}
@@ -27,29 +27,29 @@ use Rattle.node.specs.Grounding.{Apart, HasSlot, HeldUp, Risen, Hangs}
 use Rattle.node.specs.Sought.{Inside}
 use Rattle.node.proofs.Slotted.{Slotted}
 
--- nothing in common with the ground
-pub apart_decides : (choices ground : ℕ) → choices < 2 ^ 64 → {b : Bool} → Decides b (bit_and choices ground ≡ 0) → Decides b (Apart choices ground)
-apart_decides choices ground h =
+-- nothing in common with the footing
+pub apart_decides : (choices footing : ℕ) → choices < 2 ^ 64 → {b : Bool} → Decides b (bit_and choices footing ≡ 0) → Decides b (Apart choices footing)
+apart_decides choices footing h =
     decides_by
-    (λ z e m. (member_below 64 choices e h m, λ g. not_empty (bit_and choices ground) e ((meet_members choices ground e).1 (m, g)) z))
-    (λ x. empty_by_members (bit_and choices ground) (λ e m. let both = (meet_members choices ground e).0 m in (x e both.0).1 both.1))
+    (λ z e m. (member_below 64 choices e h m, λ g. not_empty (bit_and choices footing) e ((meet_members choices footing e).1 (m, g)) z))
+    (λ x. empty_by_members (bit_and choices footing) (λ e m. let both = (meet_members choices footing e).0 m in (x e both.0).1 both.1))
 
--- each slot from start on, before s, has a choice in the ground
-pub record Standing (start : ℕ) (choices : List ℕ) (ground s : ℕ) : Type 0 where
+-- each slot from start on, before s, has a choice in the footing
+pub record Standing (start : ℕ) (choices : List ℕ) (footing s : ℕ) : Type 0 where
   pub low : start ≤ s
-  pub none : (t : ℕ) → start ≤ t → t < s → ¬ Apart (get_or choices t 0) ground
+  pub none : (t : ℕ) → start ≤ t → t < s → ¬ Apart (get_or choices t 0) footing
 
-module _ {start : ℕ} {choices : List ℕ} {ground : ℕ} where
-  pub standing_none : Standing start choices ground start
+module _ {start : ℕ} {choices : List ℕ} {footing : ℕ} where
+  pub standing_none : Standing start choices footing start
   standing_none = record { low = le_refl start; none = λ t low high. absurd (omega arith) }
 
   -- one slot more
-  pub standing_more : {s : ℕ} → Standing start choices ground s → ¬ Apart (get_or choices s 0) ground → Standing start choices ground (s + 1)
+  pub standing_more : {s : ℕ} → Standing start choices footing s → ¬ Apart (get_or choices s 0) footing → Standing start choices footing (s + 1)
   standing_more was n =
       record { low = omega (arith, was.low); none = λ t low high x. ⊎_elim (λ same. n (rw same at x)) (λ h. was.none t low h x) (below_suc (omega arith)) }
 
   -- all of them
-  pub standing_all : {s end : ℕ} → end ≤ s → Standing start choices ground s → ¬ HasSlot start end choices (λ set. Apart set ground)
+  pub standing_all : {s end : ℕ} → end ≤ s → Standing start choices footing s → ¬ HasSlot start end choices (λ set. Apart set footing)
   standing_all end all x = all.none x.slot x.low (lt_of_lt_of_le x.high end) x.choice
 
 -- the machine's count of the zeros above a set's highest bit that is 1 gives a member
@@ -66,26 +66,26 @@ module _ (set : ℕ) (some : ¬ (set ≡ 0)) (h : set < 2 ^ 64) where
       let parts : set ≡ set - 2 ^ j + 2 ^ j * 1 = omega (arith, top.2) in
       rw place (ap (λ (x : ℕ). bit x j) parts ∙ bit_at j (set - 2 ^ j) 1 low)
 
--- what is left of the entries neither banned nor in the ground; unless something is found, the others are held up
-pub record Rising (first choices : List ℕ) (ban ground found rest : ℕ) : Type 0 where
+-- what is left of the entries neither banned nor in the footing; unless something is found, the others are held up
+pub record Rising (first choices : List ℕ) (ban footing found rest : ℕ) : Type 0 where
   pub fits : rest < 2 ^ 64
-  pub outside : (o : ℕ) → Member rest o → ¬ Member ground o
-  pub passed : found ≡ ground → (o : ℕ) → o < 64 → ¬ Member ban o → ¬ Member ground o → Member rest o ⊎ HeldUp first choices ground o
+  pub outside : (o : ℕ) → Member rest o → ¬ Member footing o
+  pub passed : found ≡ footing → (o : ℕ) → o < 64 → ¬ Member ban o → ¬ Member footing o → Member rest o ⊎ HeldUp first choices footing o
 
-pub rising_none : {first choices : List ℕ} {ban ground : ℕ} → ban < 2 ^ 64 → ground < 2 ^ 64
-    → Rising first choices ban ground ground (bit_and (2 ^ 64 - 1 - ban) (2 ^ 64 - 1 - ground))
-rising_none {ban = ban} {ground = ground} hb hg =
+pub rising_none : {first choices : List ℕ} {ban footing : ℕ} → ban < 2 ^ 64 → footing < 2 ^ 64
+    → Rising first choices ban footing footing (bit_and (2 ^ 64 - 1 - ban) (2 ^ 64 - 1 - footing))
+rising_none {ban = ban} {footing = footing} hb hg =
     record {
       fits = below_by_members 64 _ (λ o m. (apart_from o m).0);
       outside = λ o m. (apart_from o m).1;
-      passed = λ same o l b g. inl ((meet_members (2 ^ 64 - 1 - ban) _ o).1 ((rest_members 64 ban o hb).1 (l, b), (rest_members 64 ground o hg).1 (l, g)));
+      passed = λ same o l b g. inl ((meet_members (2 ^ 64 - 1 - ban) _ o).1 ((rest_members 64 ban o hb).1 (l, b), (rest_members 64 footing o hg).1 (l, g)));
     }
   where
-    apart_from : (o : ℕ) → Member (bit_and (2 ^ 64 - 1 - ban) (2 ^ 64 - 1 - ground)) o → (o < 64) × ¬ Member ground o
-    apart_from o m = (rest_members 64 ground o hg).0 ((meet_members (2 ^ 64 - 1 - ban) (2 ^ 64 - 1 - ground) o).0 m).1
+    apart_from : (o : ℕ) → Member (bit_and (2 ^ 64 - 1 - ban) (2 ^ 64 - 1 - footing)) o → (o < 64) × ¬ Member footing o
+    apart_from o m = (rest_members 64 footing o hg).0 ((meet_members (2 ^ 64 - 1 - ban) (2 ^ 64 - 1 - footing) o).0 m).1
 
 -- one entry of what is left
-module _ {first choices : List ℕ} {ban ground found rest d : ℕ} (was : Rising first choices ban ground found rest) (m : Member rest d) where
+module _ {first choices : List ℕ} {ban footing found rest d : ℕ} (was : Rising first choices ban footing found rest) (m : Member rest d) where
   pub left_below : d < 64
   left_below = member_below 64 rest d was.fits m
 
@@ -99,40 +99,40 @@ module _ {first choices : List ℕ} {ban ground found rest d : ℕ} (was : Risin
     fits : less < 2 ^ 64
     fits = below_by_members 64 less (λ o y. member_below 64 rest o was.fits (within o y))
 
-    pub rising_held : HeldUp first choices found d → Rising first choices ban ground found less
+    pub rising_held : HeldUp first choices found d → Rising first choices ban footing found less
     rising_held held =
         record { fits = fits; outside = λ o y. was.outside o (within o y); passed = λ same o l b g. go same o (was.passed same o l b g) (ℕ_discrete o d) }
       where
-        go : found ≡ ground → (o : ℕ) → Member rest o ⊎ HeldUp first choices ground o → Dec (o ≡ d) → Member less o ⊎ HeldUp first choices ground o
+        go : found ≡ footing → (o : ℕ) → Member rest o ⊎ HeldUp first choices footing o → Dec (o ≡ d) → Member less o ⊎ HeldUp first choices footing o
         go same o (inr up) y = inr up
         go same o (inl r) (yes q) = inr (rw q (rw same at held))
         go same o (inl r) (no n) = inl ((x.members left_below o).1 (r, n))
 
-    pub rising_found : {r : ℕ} → With found d r → Rising first choices ban ground r less
+    pub rising_found : {r : ℕ} → With found d r → Rising first choices ban footing r less
     rising_found w =
         record { fits = fits; outside = λ o y. was.outside o (within o y); passed = λ same. absurd (was.outside d m (rw same at ((w.members left_below d).1 (inl refl)))) }
 
 -- nothing is left
-pub rising_all : {first choices : List ℕ} {ban ground r rest : ℕ} → rest ≡ 0 → Rising first choices ban ground r rest → Risen first choices ban ground r
+pub rising_all : {first choices : List ℕ} {ban footing r rest : ℕ} → rest ≡ 0 → Rising first choices ban footing r rest → Risen first choices ban footing r
 rising_all z all =
     record { held = λ same o l b g. ⊎_elim (λ m. absurd (none_in_empty o (rw z at m))) (λ up. up) (all.passed same o l b g) }
 
--- what is neither banned nor in a ground that has gained nothing
-pub hangs_held : {first choices : List ℕ} {ban ground r : ℕ} → ban < 2 ^ 64 → ground < 2 ^ 64 → r ≡ ground → Risen first choices ban ground r
-    → Hangs first choices ban (bit_and (2 ^ 64 - 1 - ground) (2 ^ 64 - 1 - ban))
-hangs_held {first} {choices} {ban} {ground} hb hg same up = record { below = λ o m. (outside o m).0; members = hung }
+-- what is neither banned nor in a footing that has gained nothing
+pub hangs_held : {first choices : List ℕ} {ban footing r : ℕ} → ban < 2 ^ 64 → footing < 2 ^ 64 → r ≡ footing → Risen first choices ban footing r
+    → Hangs first choices ban (bit_and (2 ^ 64 - 1 - footing) (2 ^ 64 - 1 - ban))
+hangs_held {first} {choices} {ban} {footing} hb hg same up = record { below = λ o m. (outside o m).0; members = hung }
   where
-    outside : (o : ℕ) → Member (bit_and (2 ^ 64 - 1 - ground) (2 ^ 64 - 1 - ban)) o → (o < 64) × ¬ Member ground o
-    outside o m = (rest_members 64 ground o hg).0 ((meet_members (2 ^ 64 - 1 - ground) (2 ^ 64 - 1 - ban) o).0 m).0
+    outside : (o : ℕ) → Member (bit_and (2 ^ 64 - 1 - footing) (2 ^ 64 - 1 - ban)) o → (o < 64) × ¬ Member footing o
+    outside o m = (rest_members 64 footing o hg).0 ((meet_members (2 ^ 64 - 1 - footing) (2 ^ 64 - 1 - ban) o).0 m).0
 
-    again : (e : ℕ) → (e < 64) × ¬ Member ground e → Dec (Member ban e) → Member ban e ⊎ Member (bit_and (2 ^ 64 - 1 - ground) (2 ^ 64 - 1 - ban)) e
+    again : (e : ℕ) → (e < 64) × ¬ Member footing e → Dec (Member ban e) → Member ban e ⊎ Member (bit_and (2 ^ 64 - 1 - footing) (2 ^ 64 - 1 - ban)) e
     again e x (yes b) = inl b
-    again e x (no n) = inr ((meet_members (2 ^ 64 - 1 - ground) _ e).1 ((rest_members 64 ground e hg).1 x, (rest_members 64 ban e hb).1 (x.0, n)))
+    again e x (no n) = inr ((meet_members (2 ^ 64 - 1 - footing) _ e).1 ((rest_members 64 footing e hg).1 x, (rest_members 64 ban e hb).1 (x.0, n)))
 
-    hung : (o : ℕ) → Member (bit_and (2 ^ 64 - 1 - ground) (2 ^ 64 - 1 - ban)) o
-        → HasSlot (get_or first o 0) (get_or first (o + 1) 0) choices (λ set. (e : ℕ) → Member set e → Member ban e ⊎ Member (bit_and (2 ^ 64 - 1 - ground) (2 ^ 64 - 1 - ban)) e)
+    hung : (o : ℕ) → Member (bit_and (2 ^ 64 - 1 - footing) (2 ^ 64 - 1 - ban)) o
+        → HasSlot (get_or first o 0) (get_or first (o + 1) 0) choices (λ set. (e : ℕ) → Member set e → Member ban e ⊎ Member (bit_and (2 ^ 64 - 1 - footing) (2 ^ 64 - 1 - ban)) e)
     hung o m =
-        let not_banned = ((rest_members 64 ban o hb).0 ((meet_members (2 ^ 64 - 1 - ground) (2 ^ 64 - 1 - ban) o).0 m).1).1 in
+        let not_banned = ((rest_members 64 ban o hb).0 ((meet_members (2 ^ 64 - 1 - footing) (2 ^ 64 - 1 - ban) o).0 m).1).1 in
         let h = up.held same o (outside o m).0 not_banned (outside o m).1 in
         record { slot = h.slot; low = h.low; high = h.high; choice = λ e x. again e (h.choice e x) (member_or_not ban e) }
 

@@ -1,10 +1,10 @@
--- What holds an entry up: a slot of its span none of whose choices is in the ground.
+-- What holds an entry up: a slot of its span none of whose choices is in the footing.
 use Rattle.std.specs.Prelude.{◌≡◌, List, ◌⊎◌, ℕ, ◌+◌, ◌≤◌, ◌<◌, get_or}
 use Rattle.bitset.specs.Bits.{Member}
 
--- every choice is one of 64 entries, and none is in the ground
+-- every choice is one of 64 entries, and none is in the footing
 abbrev pub Apart : ℕ → ℕ → Type 0
-Apart choices ground = (e : ℕ) → Member choices e → (e < 64) × ¬ Member ground e
+Apart choices footing = (e : ℕ) → Member choices e → (e < 64) × ¬ Member footing e
 
 -- a slot from start on, before end, whose choices have a property
 pub record HasSlot (start end : ℕ) (choices : List ℕ) (Choices : ℕ → Type 0) : Type 0 where
@@ -15,11 +15,11 @@ pub record HasSlot (start end : ℕ) (choices : List ℕ) (Choices : ℕ → Typ
 
 -- o is held up by a slot of its span
 abbrev pub HeldUp : List ℕ → List ℕ → ℕ → ℕ → Type 0
-HeldUp first choices ground o = HasSlot (get_or first o 0) (get_or first (o + 1) 0) choices (λ set. Apart set ground)
+HeldUp first choices footing o = HasSlot (get_or first o 0) (get_or first (o + 1) 0) choices (λ set. Apart set footing)
 
--- a ground that has gained nothing: each entry neither banned nor in it is held up
-pub record Risen (first choices : List ℕ) (ban ground r : ℕ) : Type 0 where
-  pub held : r ≡ ground → (o : ℕ) → o < 64 → ¬ Member ban o → ¬ Member ground o → HeldUp first choices ground o
+-- a footing that has gained nothing: each entry neither banned nor in it is held up
+pub record Risen (first choices : List ℕ) (ban footing r : ℕ) : Type 0 where
+  pub held : r ≡ footing → (o : ℕ) → o < 64 → ¬ Member ban o → ¬ Member footing o → HeldUp first choices footing o
 
 -- each entry of a set has a slot that can only name one of the set, or a banned one
 pub record Hangs (first choices : List ℕ) (ban r : ℕ) : Type 0 where

@@ -1,4 +1,4 @@
-// Cycles forbidden: a member of a plan can be taken off after all that it names. So no members each have a slot that can only name one of them again. The ground is
+// Cycles forbidden: a member of a plan can be taken off after all that it names. So no members each have a slot that can only name one of them again. The footing is
 // grown from the entries without slots, by those all of whose slots have a choice in it; what it leaves out is banned.
 ghost use Rattle.std.specs.Prelude.{◌≡◌, List, ℕ, ◌≤◌};
 ghost use Rattle.basis.specs.Tests.{Decides};
@@ -12,21 +12,21 @@ use crate::Node;
 use crate::banned::ban_all;
 use catalogue::Settings;
 
-// Whether none of the choices is in the ground.
-fn apart(choices: u64, ground: u64) -> bool
-    ensures { Decides result (Apart choices ground) }
+// Whether none of the choices is in the footing.
+fn apart(choices: u64, footing: u64) -> bool
+    ensures { Decides result (Apart choices footing) }
 {
-    choices & ground == 0
+    choices & footing == 0
 }
 
-// Whether a slot from `start` on, before `end`, has no choice in the ground.
-fn held(start: usize, end: usize, choices: &[u64; 256], ground: u64) -> bool
+// Whether a slot from `start` on, before `end`, has no choice in the footing.
+fn held(start: usize, end: usize, choices: &[u64; 256], footing: u64) -> bool
     requires { end ≤ 256 }
-    ensures { Decides result (HasSlot start end choices.now (λ set. Apart set ground)) }
+    ensures { Decides result (HasSlot start end choices.now (λ set. Apart set footing)) }
 {
     let mut s = start;
     while s < end {
-        if apart(choices[s], ground) {
+        if apart(choices[s], footing) {
             return true;
         }
         s += 1;
@@ -42,14 +42,14 @@ fn highest(set: u64) -> u32
     63 - u64::leading_zeros(set)
 }
 
-// The ground with the entries, neither in it nor banned, that are not held up. From the highest to the lowest: most entries need entries below them in the catalogue,
+// The footing with the entries, neither in it nor banned, that are not held up. From the highest to the lowest: most entries need entries below them in the catalogue,
 // which are of higher number, and so see these at once.
-fn risen(first: &[usize; 65], choices: &[u64; 256], ban: u64, ground: u64) -> u64
+fn risen(first: &[usize; 65], choices: &[u64; 256], ban: u64, footing: u64) -> u64
     requires { Bounded first.now }
-    ensures { Risen first.now choices.now ban ground result }
+    ensures { Risen first.now choices.now ban footing result }
 {
-    let mut found = ground;
-    let mut rest = !ban & !ground;
+    let mut found = footing;
+    let mut rest = !ban & !footing;
     while rest != 0 {
         let e = highest(rest);
         let at = e as usize;
@@ -61,19 +61,19 @@ fn risen(first: &[usize; 65], choices: &[u64; 256], ban: u64, ground: u64) -> u6
     found
 }
 
-// What is neither in the ground nor banned, once a round adds nothing to the ground; nothing where the ground still grows after 65 rounds, which 64 entries do not allow.
+// What is neither in the footing nor banned, once a round adds nothing to the footing; nothing where the footing still grows after 65 rounds, which 64 entries do not allow.
 fn ungrounded(first: &[usize; 65], choices: &[u64; 256], ban: u64) -> u64
     requires { Bounded first.now }
     ensures { Hangs first.now choices.now ban result }
 {
-    let mut ground = 0;
+    let mut footing = 0;
     let mut round: usize = 0;
     while round < 65 {
-        let next = risen(first, choices, ban, ground);
-        if next == ground {
-            return !ground & !ban;
+        let next = risen(first, choices, ban, footing);
+        if next == footing {
+            return !footing & !ban;
         }
-        ground = next;
+        footing = next;
         round += 1;
     }
     0

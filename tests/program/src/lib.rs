@@ -1,4 +1,4 @@
-//! Runs the program `boxplan` on a text. It is the one that `rt check boxplan` builds, or the one
+//! Runs the program `boxplan` on a text. It is the one that `tools/build` makes, or the one
 //! that the variable `BOXPLAN` names.
 
 use std::io::{ErrorKind, Read, Write};
@@ -18,7 +18,7 @@ pub fn boxplan() -> PathBuf {
     let path = std::env::var_os("BOXPLAN").map_or(root().join("target/bin/boxplan"), PathBuf::from);
     assert!(
         path.exists(),
-        "{} is not built: rt check boxplan",
+        "{} is not built: tools/build",
         path.display()
     );
     path

@@ -6,4 +6,4 @@ use Rattle.node.proofs.Grounding.{apart_decides}
 use Rattle.node.proofs.grounded.apart.Goals as goal
 
 pub returns : goal.returns
-returns c = apart_decides c.args.choices c.args.ground (omega arith) (decides_eq (bit_and c.args.choices c.args.ground) 0)
+returns c = apart_decides c.args.choices c.args.footing (omega arith) (decides_eq (bit_and c.args.choices c.args.footing) 0)

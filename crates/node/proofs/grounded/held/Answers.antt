@@ -1,4 +1,4 @@
--- `node::grounded::held` meets its contract. The loop's invariant: each slot before `s` has a choice in the ground. The measure is the number of slots left.
+-- `node::grounded::held` meets its contract. The loop's invariant: each slot before `s` has a choice in the footing. The measure is the number of slots left.
 use native.Mathlib.Omega.{arith}
 use Rattle.node.proofs.Grounding.{standing_none, standing_more, standing_all}
 use Rattle.node.proofs.Told.{told_yes, told_no, said_yes, said_no}
