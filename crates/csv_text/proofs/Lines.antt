@@ -247,7 +247,7 @@ no_slot {text} never = bad of_kind refl
   where
     of_kind : NoLine IsSlot text
     of_kind (slot name constraint) k ok s u e = never name constraint s ok u (e ∙ slot_spelled name constraint s)
-    of_kind (entry name x y z weight) k ok s u e = k
+    of_kind (entry name x y z _) k ok s u e = k
 
 -- a field ends where a record may
 field_stops : (s : List ℕ) → AtEnd s → Stops FieldByte s

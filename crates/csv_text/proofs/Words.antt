@@ -1,6 +1,6 @@
 -- Words: what a test tells where it is taken and where it is left, and when a text begins with a word, ends a record or opens with the header.
 use mathlib.Core.Path.{◌≡◌, refl, sym, ap, ◌∙◌}
-use mathlib.Core.Bool.{Bool, true, false, not}
+use mathlib.Core.Bool.{Bool, true, false}
 use mathlib.Core.List.{List, [], ◌∷◌, ◌++◌}
 use mathlib.Core.Logic.{inl, inr}
 use Prim.Native.Nat.{ℕ, ◌+◌, ◌≤◌, ◌<◌}
@@ -8,7 +8,6 @@ use native.Mathlib.Decide.{dec_lt}
 use native.Mathlib.Omega.{arith}
 use lib.ListN.{length, get_or, drop, length-append, take-append-drop, get_or-append}
 use lib.Seq.{take_all, drop_at}
-use borrow.Author.Tests.{not-true, not-false}
 use Rattle.basis.specs.Tests.{Decides}
 use Rattle.constraint.specs.Reader.{Agrees}
 use Rattle.csv_text.specs.Layout.{header, crlf}
@@ -19,13 +18,6 @@ holds_if d e = d.sure (rw e tt)
 
 pub fails_if : {b : Bool} {A : Type 0} → Decides b A → b ≡ false → ¬ A
 fails_if d e a = rw e at (d.full a)
-
--- the same of a negated test
-pub fails_unless : {b : Bool} {A : Type 0} → Decides b A → not b ≡ true → ¬ A
-fails_unless {b} d e = fails_if d (not-true b e)
-
-pub holds_unless : {b : Bool} {A : Type 0} → Decides b A → not b ≡ false → A
-holds_unless {b} d e = holds_if d (not-false b e)
 
 pub decides_yes : {A : Type 0} → A → Decides true A
 decides_yes a = record { sure = λ t. a; full = λ x. tt }

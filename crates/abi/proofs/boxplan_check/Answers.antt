@@ -1,10 +1,6 @@
 -- `abi::boxplan_check` meets its contract.
-use borrow.Author.Rules.{rules}
 use mathlib.Core.Path.{refl}
 use Rattle.abi.specs.Crossing.{short, answered}
-use Rattle.abi.proofs.boxplan_check.Reads as reads
-use Rattle.abi.proofs.hand_checked.Reads as hand-checked-reads
-use Rattle.plan.proofs.check.Reads as check-reads
 use Rattle.abi.proofs.boxplan_check.Goals as goal
 
 pub returns-then-condition-ne1 : goal.returns-then-condition-ne1

@@ -1,10 +1,6 @@
 -- `abi::boxplan_next` meets its contract.
-use borrow.Author.Rules.{rules}
 use mathlib.Core.Path.{refl}
 use Rattle.abi.specs.Crossing.{short, answered}
-use Rattle.abi.proofs.boxplan_next.Reads as reads
-use Rattle.abi.proofs.hand_out.Reads as hand-out-reads
-use Rattle.lister.proofs.next.Reads as next-reads
 use Rattle.abi.proofs.boxplan_next.Goals as goal
 
 pub returns-then-set-ne1 : goal.returns-then-set-ne1

@@ -1,10 +1,6 @@
 -- `abi::boxplan_read` meets its contract.
-use borrow.Author.Rules.{rules}
 use mathlib.Core.Path.{refl}
 use Rattle.abi.specs.Crossing.{short, answered}
-use Rattle.abi.proofs.boxplan_read.Reads as reads
-use Rattle.abi.proofs.hand_counts.Reads as hand-counts-reads
-use Rattle.csv_text.proofs.read.Reads as read-reads
 use Rattle.abi.proofs.boxplan_read.Goals as goal
 
 pub returns-then-counts-ne2 : goal.returns-then-counts-ne2

@@ -1,12 +1,7 @@
 -- `abi::boxplan_turn` meets its contract.
-use borrow.Author.Rules.{rules}
 use mathlib.Core.Path.{refl}
 use Rattle.abi.specs.Crossing.{short, answered}
 use Rattle.abi.proofs.Crossed.{one_read}
-use Rattle.abi.proofs.boxplan_turn.Reads as reads
-use Rattle.abi.proofs.hand_back.Reads as hand-back-reads
-use Rattle.abi.proofs.hand_out.Reads as hand-out-reads
-use Rattle.lister.proofs.by_value.turned.Reads as turned-reads
 use Rattle.abi.proofs.boxplan_turn.Goals as goal
 
 pub returns-then-stage-ne1 : goal.returns-then-stage-ne1

@@ -1,8 +1,7 @@
 -- `abi::hand_back` meets its contract.
-use borrow.Author.Rules.{rules}
+use native.Mathlib.Omega.{arith}
 use Rattle.abi.proofs.Crossed.{one_written}
-use Rattle.abi.proofs.hand_back.Reads as reads
 use Rattle.abi.proofs.hand_back.Goals as goal
 
 pub returns : goal.returns
-returns c = (one_written c.args.stage.now _ c.requires.0, one_written c.args.last.now _ c.requires.1)
+returns c = (one_written c.args.stage.now _ (omega arith), one_written c.args.last.now _ (omega arith))

@@ -1,8 +1,6 @@
 -- `abi::hand_counts` meets its contract.
-use borrow.Author.Rules.{rules}
 use Rattle.csv_text.specs.declared.Sheet.TheVariants.{Refused, Holds}
 use Rattle.abi.proofs.Crossed.{counts_handed}
-use Rattle.abi.proofs.hand_counts.Reads as reads
 use Rattle.abi.proofs.hand_counts.Goals as goal
 
 pub returns-in-Holds : goal.returns-in-Holds

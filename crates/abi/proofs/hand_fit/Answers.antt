@@ -1,8 +1,6 @@
 -- `abi::hand_fit` meets its contract.
-use borrow.Author.Rules.{rules}
 use Rattle.constraint.specs.declared.Reading.TheVariants.{Fits, Misfits, Refused}
 use Rattle.abi.proofs.Crossed.{fit_handed}
-use Rattle.abi.proofs.hand_fit.Reads as reads
 use Rattle.abi.proofs.hand_fit.Goals as goal
 
 pub returns-in-Fits : goal.returns-in-Fits

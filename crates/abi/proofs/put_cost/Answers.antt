@@ -1,7 +1,5 @@
 -- `abi::put_cost` meets its contract.
-use borrow.Author.Rules.{rules}
 use Rattle.abi.proofs.Crossed.{three_written}
-use Rattle.abi.proofs.put_cost.Reads as reads
 use Rattle.abi.proofs.put_cost.Goals as goal
 
 pub returns : goal.returns

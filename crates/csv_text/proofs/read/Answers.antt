@@ -1,5 +1,4 @@
 -- `csv_text::read` meets its contract: each refusal in its order, by what the first pass counted, and the success, by what the second filled.
-use borrow.Author.Rules.{rules}
 use Rattle.csv_text.proofs.Answers.{tallied, untallied, wrong_entries, wrong_slots, outside_layout, no_entries, many_entries, many_slots, fillable, all_read}
 use Rattle.csv_text.proofs.read.Goals as goal
 

@@ -1,5 +1,4 @@
 -- `csv_text::count::advance` meets its contract: each way out by what the line reader found.
-use borrow.Author.Rules.{rules}
 use Prim.Native.Nat.{◌+◌}
 use native.Mathlib.Omega.{arith}
 use Rattle.constraint.proofs.Texts.{part_from}

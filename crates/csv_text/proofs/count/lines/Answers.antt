@@ -1,12 +1,7 @@
 -- `csv_text::count::lines` meets its contract. The loop's invariant: some lines are passed and counted. The measure is what is left of the text.
-use borrow.Author.Rules.{rules}
-use Prim.Native.Nat.{◌-◌}
-use mathlib.Core.List.{List, [], ◌∷◌, ◌++◌}
+use mathlib.Core.List.{[], ◌∷◌, ◌++◌}
 use native.Mathlib.Omega.{arith}
-use lib.ListN.{length}
-use Rattle.csv_text.specs.Layout.{Line}
-use Rattle.csv_text.specs.Walk.{Counting}
-use Rattle.csv_text.proofs.Words.{holds_unless, fails_unless}
+use Rattle.csv_text.proofs.Words.{holds_if, fails_if}
 use Rattle.csv_text.proofs.Counted.{went_on, went_out, text_too_long, not_headed, counting_none, all_counted}
 use Rattle.csv_text.proofs.count.lines.Goals as goal
 
@@ -14,10 +9,10 @@ pub returns-then-text-gt65535 : goal.returns-then-text-gt65535
 returns-then-text-gt65535 c = text_too_long c.if-text-gt65535.true
 
 pub returns-then-not-headed : goal.returns-then-not-headed
-returns-then-not-headed c = not_headed (fails_unless c.headed.ensures c.if-not-headed.true)
+returns-then-not-headed c = not_headed (fails_if c.headed.ensures c.if-not-headed.true)
 
 pub loop-here-init : goal.loop-here-init
-loop-here-init c = ([], counting_none (holds_unless c.headed.ensures c.if-not-headed.false) c.if-text-gt65535.false)
+loop-here-init c = ([], counting_none (holds_if c.headed.ensures c.if-not-headed.false) c.if-text-gt65535.false)
 
 pub overflow_add-here : goal.overflow_add-here
 overflow_add-here c = omega (arith, c.loop-here.invariant.1.walked.within, c.loop-here.invariant.1.short)

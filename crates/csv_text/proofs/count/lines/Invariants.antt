@@ -1,12 +1,9 @@
 -- `csv_text::count::lines` meets its contract. The loop's invariant: some lines are passed and counted. The measure is what is left of the text.
 use Prim.Native.Nat.{◌-◌}
-use mathlib.Core.List.{List, [], ◌∷◌, ◌++◌}
-use native.Mathlib.Omega.{arith}
+use mathlib.Core.List.{List}
 use lib.ListN.{length}
 use Rattle.csv_text.specs.Layout.{Line}
 use Rattle.csv_text.specs.Walk.{Counting}
-use Rattle.csv_text.proofs.Words.{holds_unless, fails_unless}
-use Rattle.csv_text.proofs.Counted.{went_on, went_out, text_too_long, not_headed, counting_none, all_counted}
 use Rattle.csv_text.proofs.count.lines.Given as goal
 
 abbrev pub invariant-loop-here : goal.invariant-loop-here

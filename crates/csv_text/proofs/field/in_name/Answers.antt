@@ -1,5 +1,4 @@
 -- `csv_text::field::in_name` meets its contract, by the ranges of its bytes.
-use borrow.Author.Rules.{rules}
 use Rattle.csv_text.proofs.Fields.{no_name_byte}
 use mathlib.Core.Logic.{inl, inr}
 use native.Mathlib.Omega.{arith}
@@ -16,10 +15,10 @@ pub returns-in-97-to-122 : goal.returns-in-97-to-122
 returns-in-97-to-122 c = decides_yes (inl (omega arith, omega arith))
 
 pub returns-in_default : goal.returns-in_default
-returns-in_default c = decides_no (no_name_byte _ (λ l h. omega arith) (λ l h. omega arith) c.in_default-1.rest.1)
+returns-in_default c = decides_no (no_name_byte _ (λ l h. omega arith) (λ l h. omega arith) (λ e. omega arith))
 
 pub returns-in_default-2 : goal.returns-in_default-2
-returns-in_default-2 c = decides_no (no_name_byte _ (λ l h. omega arith) (λ l h. omega arith) c.in_default-1.rest.1)
+returns-in_default-2 c = decides_no (no_name_byte _ (λ l h. omega arith) (λ l h. omega arith) (λ e. omega arith))
 
 pub returns-in_default-3 : goal.returns-in_default-3
-returns-in_default-3 c = decides_no (no_name_byte _ (λ l h. omega arith) (λ l h. omega arith) c.in_default-1.rest.1)
+returns-in_default-3 c = decides_no (no_name_byte _ (λ l h. omega arith) (λ l h. omega arith) (λ e. omega arith))

@@ -1,5 +1,4 @@
 -- `csv_text::field::name` meets its contract: the run of name bytes is a name of at most 32 bytes in front of a comma, or there is none.
-use borrow.Author.Rules.{rules}
 use native.Mathlib.Omega.{arith}
 use Rattle.csv_text.proofs.Fields.{name_splits, none_at_end, none_before, too_long, name_there}
 use Rattle.csv_text.proofs.field.name.Goals as goal

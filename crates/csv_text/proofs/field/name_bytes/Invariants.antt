@@ -1,10 +1,8 @@
 -- `csv_text::field::name_bytes` meets its contract. The loop's invariant: every byte passed is of the kind. The measure is what is left of the text.
 use Prim.Native.Nat.{◌-◌}
-use native.Mathlib.Omega.{arith}
 use lib.ListN.{length}
 use Rattle.csv_text.specs.Layout.{NameByte}
-use Rattle.csv_text.proofs.Words.{fails_unless, holds_unless}
-use Rattle.csv_text.proofs.Fields.{Going, going_none, going_on, run_here, run_all}
+use Rattle.csv_text.proofs.Fields.{Going}
 use Rattle.csv_text.proofs.field.name_bytes.Given as goal
 
 abbrev pub invariant-loop-used : goal.invariant-loop-used

@@ -1,5 +1,4 @@
 -- `csv_text::field::number` meets its contract: the longest number stands in front of the sign, or there is none.
-use borrow.Author.Rules.{rules}
 use native.Mathlib.Omega.{arith}
 use Rattle.csv_text.proofs.Fields.{number_splits, none_at_end, none_before, number_none, number_there}
 use Rattle.csv_text.proofs.field.number.Goals as goal

@@ -1,11 +1,8 @@
 -- `csv_text::field::plain_bytes` meets its contract. The loop's invariant: every byte passed is of the kind. The measure is what is left of the text.
-use borrow.Author.Rules.{rules}
-use Prim.Native.Nat.{◌-◌}
 use native.Mathlib.Omega.{arith}
-use lib.ListN.{length}
 use Rattle.csv_text.specs.Layout.{FieldByte}
-use Rattle.csv_text.proofs.Words.{fails_unless, holds_unless}
-use Rattle.csv_text.proofs.Fields.{Going, going_none, going_on, run_here, run_all}
+use Rattle.csv_text.proofs.Words.{fails_if, holds_if}
+use Rattle.csv_text.proofs.Fields.{going_none, going_on, run_here, run_all}
 use Rattle.csv_text.proofs.field.plain_bytes.Goals as goal
 
 pub loop-used-init : goal.loop-used-init
@@ -15,7 +12,7 @@ pub bounds-rest-used : goal.bounds-rest-used
 bounds-rest-used c = omega arith
 
 pub returns-then-not-in_field : goal.returns-then-not-in_field
-returns-then-not-in_field c = run_here c.loop-used.invariant (fails_unless c.in_field.ensures c.if-not-in_field.true)
+returns-then-not-in_field c = run_here c.loop-used.invariant (fails_if c.in_field.ensures c.if-not-in_field.true)
 
 pub overflow_add-used : goal.overflow_add-used
 overflow_add-used c = omega arith
@@ -24,7 +21,7 @@ pub loop-used-smaller : goal.loop-used-smaller
 loop-used-smaller c = omega arith
 
 pub loop-used-preserved : goal.loop-used-preserved
-loop-used-preserved c = going_on c.loop-used.invariant (omega arith) (holds_unless c.in_field.ensures c.if-not-in_field.false)
+loop-used-preserved c = going_on c.loop-used.invariant (omega arith) (holds_if c.in_field.ensures c.if-not-in_field.false)
 
 pub returns : goal.returns
 returns c = run_all c.loop-used.invariant c.loop-used-test.false

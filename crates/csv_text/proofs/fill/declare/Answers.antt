@@ -1,5 +1,4 @@
 -- `csv_text::fill::declare` meets its contract: the numbers are those of the record, the package's is small, and there is room.
-use borrow.Author.Rules.{rules}
 use native.Mathlib.Omega.{arith}
 use Rattle.csv_text.proofs.Filled.{place_small}
 use Rattle.csv_text.proofs.fill.declare.Goals as goal

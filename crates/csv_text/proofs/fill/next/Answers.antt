@@ -1,5 +1,4 @@
 -- `csv_text::fill::next` meets its contract: the line that is read is the next line of the text, so there is room for it.
-use borrow.Author.Rules.{rules}
 use Rattle.constraint.proofs.Texts.{part_from}
 use Rattle.csv_text.proofs.Found.{entry_found, slot_found, none_found}
 use Rattle.csv_text.proofs.Filled.{entry_room, slot_room, fills_entry, fills_slot, no_line_left}

@@ -1,12 +1,9 @@
 -- `csv_text::fill::tables` meets its contract. The loop's invariant: of the text's lines some are passed, and their numbers stand in front of what was lent. The measure is what is left of the text.
-use borrow.Author.Rules.{rules}
-use mathlib.Core.Path.{◌≡◌, refl, ◌∙◌}
-use mathlib.Core.List.{List, [], ◌∷◌, ◌++◌}
-use Prim.Native.Nat.{ℕ, ◌-◌}
+use mathlib.Core.Path.{refl, ◌∙◌}
+use mathlib.Core.List.{[], ◌∷◌, ◌++◌}
+use Prim.Native.Nat.{ℕ}
 use native.Mathlib.Omega.{arith}
-use lib.ListN.{length, length-replicate}
-use Rattle.csv_text.specs.Layout.{Line}
-use Rattle.csv_text.specs.Filling.{Filling}
+use lib.ListN.{length-replicate}
 use Rattle.csv_text.proofs.Filled.{filling_none, all_filled}
 use Rattle.csv_text.proofs.fill.tables.Goals as goal
 
@@ -28,7 +25,7 @@ loop-here-smaller c = omega (arith, c.next-here.ensures.onward, c.loop-here-test
 pub loop-here-preserved : goal.loop-here-preserved
 loop-here-preserved c =
     let r = c.next-here.ensures.filled _ _ c.loop-here.invariant.0 c.loop-here.invariant.1 c.loop-here.invariant.2 in
-    (c.loop-here.invariant.0, c.loop-here.invariant.1 ++ (r.0 ∷ []), r.1, c.next-here.auto.1.1.1.1.0 ∙ c.loop-here.invariant.3, c.next-here.auto.1.1.1.1.1.0 ∙ c.loop-here.invariant.4)
+    (c.loop-here.invariant.0, c.loop-here.invariant.1 ++ (r.0 ∷ []), r.1, c.next-here.auto.entries ∙ c.loop-here.invariant.3, c.next-here.auto.slots ∙ c.loop-here.invariant.4)
 
 pub shape_of-entries : goal.shape_of-entries
 shape_of-entries c = c.loop-here.invariant.3

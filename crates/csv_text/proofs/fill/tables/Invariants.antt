@@ -1,12 +1,10 @@
 -- `csv_text::fill::tables` meets its contract. The loop's invariant: of the text's lines some are passed, and their numbers stand in front of what was lent. The measure is what is left of the text.
-use mathlib.Core.Path.{◌≡◌, refl, ◌∙◌}
-use mathlib.Core.List.{List, [], ◌∷◌, ◌++◌}
-use Prim.Native.Nat.{ℕ, ◌-◌}
-use native.Mathlib.Omega.{arith}
-use lib.ListN.{length, length-replicate}
+use mathlib.Core.Path.{◌≡◌}
+use mathlib.Core.List.{List}
+use Prim.Native.Nat.{◌-◌}
+use lib.ListN.{length}
 use Rattle.csv_text.specs.Layout.{Line}
 use Rattle.csv_text.specs.Filling.{Filling}
-use Rattle.csv_text.proofs.Filled.{filling_none, all_filled}
 use Rattle.csv_text.proofs.fill.tables.Given as goal
 
 abbrev pub invariant-loop-here : goal.invariant-loop-here

@@ -1,5 +1,4 @@
 -- `csv_text::fill::want` meets its contract: the marks are those of the record's last field, the package's number is small, and there is room.
-use borrow.Author.Rules.{rules}
 use native.Mathlib.Omega.{arith}
 use Rattle.csv_text.proofs.Filled.{place_small}
 use Rattle.csv_text.proofs.fill.want.Goals as goal

@@ -1,5 +1,4 @@
 -- `csv_text::fill::write_entry` meets its contract: the numbers are stored one after the other.
-use borrow.Author.Rules.{rules}
 use mathlib.Core.List.{[], ◌∷◌}
 use native.Mathlib.Numerals.{add-one, add-two, add-three, add-four}
 use native.Mathlib.Omega.{arith}

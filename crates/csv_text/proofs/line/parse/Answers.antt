@@ -1,7 +1,4 @@
 -- `csv_text::line::parse` meets its contract: a line is a slot's or an entry's.
-use borrow.Author.Rules.{rules}
-use mathlib.Core.Logic.{⊎_elim}
-use native.Mathlib.Omega.{arith}
 use Rattle.csv_text.proofs.Lines.{line_slot, line_entry}
 use Rattle.csv_text.proofs.line.parse.Goals as goal
 
@@ -9,4 +6,4 @@ pub returns-in-Bad : goal.returns-in-Bad
 returns-in-Bad c = line_entry c.slot-found.ensures c.in-Bad.is c.entry.ensures
 
 pub returns : goal.returns
-returns c = line_slot c.slot-found.ensures (λ e. ⊎_elim (λ z. omega (arith, z)) (λ z. omega (arith, z)) (rw e at c.in_default.keys2))
+returns c = line_slot c.slot-found.ensures c.in_default.not-Bad

@@ -1,16 +1,15 @@
 -- `csv_text::line::version` meets its contract: three numbers, each in front of its sign, or not all three.
-use borrow.Author.Rules.{rules}
 use Prim.Native.Nat.{◌+◌, ◌≤◌}
 use native.Mathlib.Omega.{arith}
 use lib.ListN.{length}
 use Rattle.constraint.proofs.Texts.{part_from}
 use Rattle.csv_text.proofs.Fields.{has}
 use Rattle.csv_text.proofs.Lines.{no_major, no_minor, no_patch, version_there, second_within, third_within}
-use Rattle.csv_text.proofs.line.version.Goals.{After-struct_known-2-1, After-struct_known-4-1, After-struct_known-6-1}
+use Rattle.csv_text.proofs.line.version.Goals.{Else-patch-eq0}
 use Rattle.csv_text.proofs.line.version.Goals as goal
 
 -- all three numbers and their signs lie within the text
-used_within : (c : After-struct_known-6-1)
+used_within : (c : Else-patch-eq0)
     → c.number-major.result.used + 1
     + c.number-minor.result.used + 1
     + c.number-patch.result.used + 1
@@ -25,12 +24,6 @@ returns-then-major-eq0 c = no_major c.number-major.ensures c.if-major-eq0.true
 pub slice_bounds-number-count : goal.slice_bounds-number-count
 slice_bounds-number-count c = omega (arith, (has c.number-major.ensures.field c.if-major-eq0.false).within)
 
-pub overflow_add-second : goal.overflow_add-second
-overflow_add-second c = omega (arith, sub_number (goal.at.overflow_add-second c).After-struct_known-2-1)
-
-pub slice_bounds-number-start : goal.slice_bounds-number-start
-slice_bounds-number-start c = sub_number (goal.at.slice_bounds-number-start c).After-struct_known-2-1
-
 pub returns-then-minor-eq0 : goal.returns-then-minor-eq0
 returns-then-minor-eq0 c =
     no_minor c.number-major.ensures c.if-major-eq0.false (rw part_from at c.number-minor.ensures) c.if-minor-eq0.true
@@ -39,25 +32,16 @@ pub slice_bounds-number-count-2 : goal.slice_bounds-number-count-2
 slice_bounds-number-count-2 c =
     second_within c.number-major.ensures c.if-major-eq0.false (rw part_from at c.number-minor.ensures) c.if-minor-eq0.false
 
-pub overflow_add-third : goal.overflow_add-third
-overflow_add-third c = omega (arith, sub_number_2 (goal.at.overflow_add-third c).After-struct_known-4-1)
-
-pub overflow_add-third-2 : goal.overflow_add-third-2
-overflow_add-third-2 c = omega (arith, sub_number_2 (goal.at.overflow_add-third-2 c).After-struct_known-4-1)
-
-pub slice_bounds-number-start-2 : goal.slice_bounds-number-start-2
-slice_bounds-number-start-2 c = sub_number_2 (goal.at.slice_bounds-number-start-2 c).After-struct_known-4-1
-
 pub returns-then-patch-eq0 : goal.returns-then-patch-eq0
 returns-then-patch-eq0 c =
     no_patch c.number-major.ensures c.if-major-eq0.false (rw part_from at c.number-minor.ensures) c.if-minor-eq0.false
     (rw part_from at c.number-patch.ensures) c.if-patch-eq0.true
 
 pub overflow_add-result : goal.overflow_add-result
-overflow_add-result c = omega (arith, used_within (goal.at.overflow_add-result c).After-struct_known-6-1)
+overflow_add-result c = omega (arith, used_within (goal.at.overflow_add-result c).Else-patch-eq0)
 
 pub overflow_add-result-2 : goal.overflow_add-result-2
-overflow_add-result-2 c = omega (arith, used_within (goal.at.overflow_add-result-2 c).After-struct_known-6-1)
+overflow_add-result-2 c = omega (arith, used_within (goal.at.overflow_add-result-2 c).Else-patch-eq0)
 
 pub returns : goal.returns
 returns c =

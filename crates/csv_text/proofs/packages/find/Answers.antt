@@ -1,12 +1,10 @@
 -- `csv_text::packages::find` meets its contract. The loop's invariant: the name is none of the first i. The measure is the number of names left.
-use borrow.Author.Rules.{rules}
 use mathlib.Core.Path.{◌≡◌, refl, sym, ◌∙◌, ap}
-use Prim.Native.Nat.{ℕ, ◌-◌, ◌≤◌}
+use Prim.Native.Nat.{ℕ}
 use native.Mathlib.Omega.{arith}
 use Rattle.csv_text.specs.Says.{place}
 use Rattle.csv_text.specs.Numbering.{known}
 use Rattle.csv_text.proofs.Marks.{found_at, not_at}
-use Rattle.csv_text.proofs.packages.find.Goals.{After-end-1}
 use Rattle.csv_text.proofs.packages.find.Goals as goal
 
 pub loop-i-init : goal.loop-i-init
@@ -26,9 +24,6 @@ bounds-ends-i c = omega (arith, c.requires.few)
 
 pub slice_bounds-same-count : goal.slice_bounds-same-count
 slice_bounds-same-count c = (c.requires.each c.loop-i.i (omega arith)).0
-
-pub slice_bounds-same-start : goal.slice_bounds-same-start
-slice_bounds-same-start c = sub_same (goal.at.slice_bounds-same-start c).After-end-1
 
 pub slice_bounds-same-end : goal.slice_bounds-same-end
 slice_bounds-same-end c = (c.requires.each c.loop-i.i (omega arith)).1

@@ -1,10 +1,8 @@
 -- `csv_text::packages::find` meets its contract. The loop's invariant: the name is none of the first i. The measure is the number of names left.
-use mathlib.Core.Path.{◌≡◌, refl, sym, ◌∙◌, ap}
-use Prim.Native.Nat.{ℕ, ◌-◌, ◌≤◌}
-use native.Mathlib.Omega.{arith}
+use mathlib.Core.Path.{◌≡◌}
+use Prim.Native.Nat.{◌-◌, ◌≤◌}
 use Rattle.csv_text.specs.Says.{place}
 use Rattle.csv_text.specs.Numbering.{known}
-use Rattle.csv_text.proofs.Marks.{found_at, not_at}
 use Rattle.csv_text.proofs.packages.find.Given as goal
 
 abbrev pub invariant-loop-i : goal.invariant-loop-i

@@ -1,5 +1,4 @@
 -- `csv_text::packages::number` meets its contract: a name that is found is known, and one that is not is kept behind the others.
-use borrow.Author.Rules.{rules}
 use Rattle.csv_text.proofs.Marks.{number_known, number_new}
 use Rattle.csv_text.proofs.packages.number.Goals as goal
 

@@ -1,5 +1,4 @@
 -- `csv_text::packages::same` meets its contract: names of one length that agree to the end are the same.
-use borrow.Author.Rules.{rules}
 use mathlib.Core.Path.{ap}
 use lib.ListN.{length}
 use Rattle.csv_text.proofs.Names.{same_yes, same_not, agreed_same, same_agreed}

@@ -1,5 +1,4 @@
 -- `csv_text::word::at_end` meets its contract: the text ends, or goes on with CR LF, or neither.
-use borrow.Author.Rules.{rules}
 use mathlib.Core.Logic.{inr}
 use Rattle.csv_text.proofs.Words.{holds_if, fails_if, decides_yes, decides_no, ends_empty, ends_not}
 use Rattle.csv_text.proofs.word.at_end.Goals as goal

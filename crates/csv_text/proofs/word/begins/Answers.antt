@@ -1,5 +1,4 @@
 -- `csv_text::word::begins` meets its contract: a text that agrees with the whole word begins with it.
-use borrow.Author.Rules.{rules}
 use Rattle.csv_text.proofs.Words.{decides_yes, decides_no, begun, begins_agrees}
 use Rattle.csv_text.proofs.word.begins.Goals as goal
 

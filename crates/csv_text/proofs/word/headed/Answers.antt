@@ -1,24 +1,19 @@
 -- `csv_text::word::headed` meets its contract: the header stands in front, and a record may end behind it.
-use borrow.Author.Rules.{rules}
 use native.Mathlib.Omega.{arith}
 use Rattle.constraint.proofs.Texts.{part_from}
 use Rattle.csv_text.specs.Layout.{header}
-use Rattle.csv_text.proofs.Words.{holds_if, fails_if, fails_unless, holds_unless, decides_yes, decides_no, word_within, headed_yes, headed_end}
-use Rattle.csv_text.proofs.word.headed.Goals.{Else-not-begins}
+use Rattle.csv_text.proofs.Words.{holds_if, fails_if, decides_yes, decides_no, word_within, headed_yes, headed_end}
 use Rattle.csv_text.proofs.word.headed.Goals as goal
 
 pub returns-then-not-begins : goal.returns-then-not-begins
-returns-then-not-begins c = decides_no (λ h. fails_unless c.begins.ensures c.if-not-begins.true (h.0, h.2))
+returns-then-not-begins c = decides_no (λ h. fails_if c.begins.ensures c.if-not-begins.true (h.0, h.2))
 
 pub slice_bounds-at_end-count : goal.slice_bounds-at_end-count
-slice_bounds-at_end-count c = omega (arith, word_within header (holds_unless c.begins.ensures c.if-not-begins.false))
-
-pub slice_bounds-at_end-start : goal.slice_bounds-at_end-start
-slice_bounds-at_end-start c = sub_at_end (goal.at.slice_bounds-at_end-start c).Else-not-begins
+slice_bounds-at_end-count c = omega (arith, word_within header (holds_if c.begins.ensures c.if-not-begins.false))
 
 pub returns-then-at_end : goal.returns-then-at_end
 returns-then-at_end c =
-    let begins = holds_unless c.begins.ensures c.if-not-begins.false in
+    let begins = holds_if c.begins.ensures c.if-not-begins.false in
     decides_yes (headed_yes begins (rw part_from at (holds_if c.at_end.ensures c.if-at_end.true)))
 
 pub returns : goal.returns

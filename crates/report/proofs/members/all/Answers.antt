@@ -1,12 +1,7 @@
 -- `report::members::all` meets its contract. The loop's invariant: of the text's lines some are passed, and the records of their members are put. The measure is what is left of the text.
-use borrow.Author.Rules.{rules}
-use mathlib.Core.Path.{◌≡◌, refl, ◌∙◌}
-use mathlib.Core.List.{List, [], ◌∷◌, ◌++◌}
-use Prim.Native.Nat.{◌-◌}
+use mathlib.Core.Path.{refl, ◌∙◌}
+use mathlib.Core.List.{[], ◌∷◌, ◌++◌}
 use native.Mathlib.Omega.{arith}
-use lib.ListN.{length}
-use Rattle.csv_text.specs.Layout.{Line}
-use Rattle.report.specs.Telling.{Telling}
 use Rattle.report.proofs.Telling.{telling_none, all_told}
 use Rattle.report.proofs.members.all.Goals as goal
 
@@ -26,7 +21,7 @@ loop-here-smaller c = omega (arith, c.next-here.ensures.onward, c.loop-here-test
 pub loop-here-preserved : goal.loop-here-preserved
 loop-here-preserved c =
     let r = c.next-here.ensures.told _ _ c.loop-here.invariant.0 c.loop-here.invariant.1 c.loop-here.invariant.2 in
-    (c.loop-here.invariant.0, c.loop-here.invariant.1 ++ (r.0 ∷ []), r.1, c.next-here.auto.1.1.1.1.0 ∙ c.loop-here.invariant.3)
+    (c.loop-here.invariant.0, c.loop-here.invariant.1 ++ (r.0 ∷ []), r.1, c.next-here.auto.out ∙ c.loop-here.invariant.3)
 
 pub shape_of-out : goal.shape_of-out
 shape_of-out c = c.loop-here.invariant.3

@@ -1,12 +1,10 @@
 -- `report::members::all` meets its contract. The loop's invariant: of the text's lines some are passed, and the records of their members are put. The measure is what is left of the text.
-use mathlib.Core.Path.{◌≡◌, refl, ◌∙◌}
-use mathlib.Core.List.{List, [], ◌∷◌, ◌++◌}
+use mathlib.Core.Path.{◌≡◌}
+use mathlib.Core.List.{List}
 use Prim.Native.Nat.{◌-◌}
-use native.Mathlib.Omega.{arith}
 use lib.ListN.{length}
 use Rattle.csv_text.specs.Layout.{Line}
 use Rattle.report.specs.Telling.{Telling}
-use Rattle.report.proofs.Telling.{telling_none, all_told}
 use Rattle.report.proofs.members.all.Given as goal
 
 abbrev pub invariant-loop-here : goal.invariant-loop-here

@@ -1,5 +1,4 @@
 -- `report::members::next` meets its contract: the line that is read is the next line of the text, so there is room for its record.
-use borrow.Author.Rules.{rules}
 use Prim.Native.Nat.{◌+◌}
 use native.Mathlib.Omega.{arith}
 use Rattle.constraint.proofs.Texts.{part_from}

@@ -1,12 +1,8 @@
 -- `report::plans::from_first` meets its contract. The loop's invariant: with what the loop began with shown, so is what it has come to. The measure is how many may follow.
-use borrow.Author.Rules.{rules}
-use mathlib.Core.Path.{◌≡◌, refl, ◌∙◌}
+use mathlib.Core.Path.{refl, ◌∙◌}
 use mathlib.Core.List.{[]}
 use mathlib.Core.Logic.{inl}
-use Prim.Native.Nat.{◌-◌}
 use native.Mathlib.Omega.{arith}
-use lib.ListN.{length}
-use Rattle.report.specs.Telling.{Carries}
 use Rattle.report.proofs.Showing.{first_room, first_shown, went_on, ended_all, shown_all}
 use Rattle.report.proofs.plans.from_first.Goals as goal
 
@@ -25,10 +21,10 @@ next-requires c =
     record { lines = c.requires.lines; lent = _; before = now.0; more = now.1; showing = now.2; fewer = omega (arith, c.loop-here-test.true) }
 
 pub shape_of-table-in_default : goal.shape_of-table-in_default
-shape_of-table-in_default c = c.next.auto.1.1.1.1.0 ∙ c.loop-here.invariant.1
+shape_of-table-in_default c = c.next.auto.table ∙ c.loop-here.invariant.1
 
 pub shape_of-out-in_default : goal.shape_of-out-in_default
-shape_of-out-in_default c = c.next.auto.1.1.1.1.1.0 ∙ c.loop-here.invariant.2 ∙ c.all-filled.auto.1.1.1.0 ∙ c.copy-titled.auto.1.0
+shape_of-out-in_default c = c.next.auto.out ∙ c.loop-here.invariant.2 ∙ c.all-filled.auto.out ∙ c.copy-titled.auto.out
 
 pub returns-in_default : goal.returns-in_default
 returns-in_default c =
@@ -42,15 +38,15 @@ pub loop-here-preserved : goal.loop-here-preserved
 loop-here-preserved c =
     let on = (went_on c.in-On.further c.next.ensures c.in-On.is).1 in (
       λ lines lent before more g. let now = c.loop-here.invariant.0 lines lent before more g in on lines lent now.0 now.1 now.2,
-      c.next.auto.1.1.1.1.0 ∙ c.loop-here.invariant.1,
-      c.next.auto.1.1.1.1.1.0 ∙ c.loop-here.invariant.2,
+      c.next.auto.table ∙ c.loop-here.invariant.1,
+      c.next.auto.out ∙ c.loop-here.invariant.2,
     )
 
 pub shape_of-table : goal.shape_of-table
 shape_of-table c = c.loop-here.invariant.1
 
 pub shape_of-out : goal.shape_of-out
-shape_of-out c = c.loop-here.invariant.2 ∙ c.all-filled.auto.1.1.1.0 ∙ c.copy-titled.auto.1.0
+shape_of-out c = c.loop-here.invariant.2 ∙ c.all-filled.auto.out ∙ c.copy-titled.auto.out
 
 pub returns : goal.returns
 returns c =

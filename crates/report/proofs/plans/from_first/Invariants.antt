@@ -1,12 +1,8 @@
 -- `report::plans::from_first` meets its contract. The loop's invariant: with what the loop began with shown, so is what it has come to. The measure is how many may follow.
-use mathlib.Core.Path.{◌≡◌, refl, ◌∙◌}
-use mathlib.Core.List.{[]}
-use mathlib.Core.Logic.{inl}
+use mathlib.Core.Path.{◌≡◌}
 use Prim.Native.Nat.{◌-◌}
-use native.Mathlib.Omega.{arith}
 use lib.ListN.{length}
 use Rattle.report.specs.Telling.{Carries}
-use Rattle.report.proofs.Showing.{first_room, first_shown, went_on, ended_all, shown_all}
 use Rattle.report.proofs.plans.from_first.Given as goal
 
 abbrev pub invariant-loop-here : goal.invariant-loop-here

@@ -1,5 +1,4 @@
 -- `report::plans::next` meets its contract: the plan that comes next in the listing is shown, or there is none.
-use borrow.Author.Rules.{rules}
 use Rattle.report.proofs.Showing.{plan_room, advances, stops}
 use Rattle.report.proofs.plans.next.Goals as goal
 
@@ -7,7 +6,7 @@ pub all-filled-requires : goal.all-filled-requires
 all-filled-requires c = plan_room c.requires.showing c.requires.fewer
 
 pub returns-in-Plan : goal.returns-in-Plan
-returns-in-Plan c = advances c.requires c.next-answer.ensures c.in-Plan.is c.next-answer.auto.1.1.1.1.1.1.0 c.all-filled.ensures
+returns-in-Plan c = advances c.requires c.next-answer.ensures c.in-Plan.is c.next-answer.auto.plan c.all-filled.ensures
 
 pub returns-in-Refused : goal.returns-in-Refused
 returns-in-Refused c = stops c.requires c.next-answer.ensures c.in-Refused.is

@@ -1,11 +1,10 @@
 -- `report::put::copy` meets its contract. The loop's invariant: the first i bytes are pasted. The measure is the number of bytes left.
-use borrow.Author.Rules.{rules}
-use mathlib.Core.Path.{◌≡◌, refl, ◌∙◌}
-use Prim.Native.Nat.{◌+◌, ◌-◌, ◌≤◌}
+use mathlib.Core.Path.{refl, ◌∙◌}
+use Prim.Native.Nat.{◌+◌}
 use native.Mathlib.Numerals.{add-one}
 use native.Mathlib.Omega.{arith}
-use lib.ListN.{length, get_or, length-set}
-use lib.Seq.{paste, paste-zero, paste-suc}
+use lib.ListN.{get_or, length-set}
+use lib.Seq.{paste-zero, paste-suc}
 use Rattle.report.proofs.Adding.{adds_copied}
 use Rattle.report.proofs.put.copy.Goals as goal
 

@@ -1,5 +1,4 @@
 -- `report::put::decimal_line` meets its contract: one digit below 10, and two from there on.
-use borrow.Author.Rules.{rules}
 use Rattle.report.proofs.Records.{one_digit, two_digits}
 use Rattle.report.proofs.put.decimal_line.Goals as goal
 

@@ -1,5 +1,4 @@
 -- `report::put::entry_record` meets its contract: three parts put one behind the other.
-use borrow.Author.Rules.{rules}
 use native.Mathlib.Omega.{arith}
 use Rattle.report.proofs.Adding.{adds_both}
 use Rattle.report.proofs.put.entry_record.Goals as goal

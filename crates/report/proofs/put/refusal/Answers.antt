@@ -1,5 +1,4 @@
 -- `report::put::refusal` meets its contract: the word, and behind it the number.
-use borrow.Author.Rules.{rules}
 use native.Mathlib.Omega.{arith}
 use Rattle.report.proofs.Adding.{adds_both}
 use Rattle.report.proofs.put.refusal.Goals as goal
