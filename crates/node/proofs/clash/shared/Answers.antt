@@ -36,7 +36,7 @@ loop-e-smaller c = omega arith
 
 pub loop-e-preserved : goal.loop-e-preserved
 loop-e-preserved c =
-    (omega arith, shared_more c.loop-e-test.true c.loop-e.invariant.1 c.without.ensures)
+    (omega arith, shared_more c.loop-e-test.true c.loop-e.invariant.1 assumption)
 
 pub returns : goal.returns
 returns c entries = rows_end _ _ (λ e p. omega (arith, p.1, c.loop-e-test.false)) (c.loop-e.invariant.1 entries)
