@@ -1,3 +1,2 @@
--- Laws of how an answer crosses, and that each function has one outcome.
-pub mod Crossed
+-- That each function has one outcome.
 pub mod Outcome

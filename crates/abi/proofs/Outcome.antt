@@ -7,7 +7,7 @@ use Rattle.constraint.specs.declared.Version.{Version}
 use Rattle.constraint.proofs.Outcome.{reading_one}
 use Rattle.catalogue.specs.Tables.{Lent}
 use Rattle.plan.proofs.Outcome.{check_one}
-use Rattle.lister.specs.declared.Answer.{Answer}
+use Rattle.lister.specs.Answers.{Answer}
 use Rattle.lister.specs.declared.ListingRecord.{ListingRecord}
 use Rattle.lister.specs.Turns.{listing}
 use Rattle.lister.proofs.TurnOutcome.{turn_one}

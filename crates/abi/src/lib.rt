@@ -1,4 +1,5 @@
-// The public calls as C functions on numbers and slices. Each gives back its number, 0 where nothing is refused; what else it answers crosses in lent slices of a fixed length.
+// The public calls as C functions on numbers and slices. Each gives back its number, 0 where nothing is refused; what else it answers crosses in lent slices of a
+// fixed length. The names and the parameters are those of include/boxplan.h, so a catalogue crosses as its parts and a refusal as its number.
 #![tactic(auto)]
 
 ghost use Rattle.std.specs.Prelude.{length, [], ◌∷◌, ◌≡◌};
@@ -9,45 +10,39 @@ ghost use Rattle.plan.specs.Check.{condition_of, number_of as checked_number, co
 ghost use Rattle.lister.specs.Answers.{Firsts, Nexts, number_of, set_of, cost_of};
 ghost use Rattle.csv_text.specs.Reading.{entries_of, slots_of, number_of as sheet_number};
 
-use catalogue::Settings;
-use constraint::{Reading, Version};
+use basis::Refusal;
+use catalogue::{Lent, Settings};
+use constraint::Version;
 use csv_text::Sheet;
+use lister::ListingRecord;
 use lister::by_value::turned;
-use lister::{Answer, ListingRecord};
-use pacsolve::Cost;
-use plan::Checked;
+use pacsolve::{Cost, Listed, Plan};
+use plan::Fault;
 
 // A cost put into its slice.
 fn put_cost(its: Cost, cost: &mut [u32])
     requires { length cost.old ≡ 3 }
     ensures { cost.new ≡ three its }
 {
-    cost[0] = its.first;
-    cost[1] = its.second;
-    cost[2] = its.third;
+    cost.copy_from_slice(&[its.first, its.second, its.third]);
 }
 
 // An answer of first, next or turn put into its slices.
-fn hand_out(answer: Answer, set: &mut [u64], cost: &mut [u32]) -> u8
+fn hand_out(answer: Result<Listed, Refusal>, set: &mut [u64], cost: &mut [u32]) -> u8
     requires set_sized { length set.old ≡ 1 }
     requires cost_sized { length cost.old ≡ 3 }
     ensures { (result ≡ number_of answer) × ((set.new ≡ set_of answer ∷ []) × (cost.new ≡ three (cost_of answer))) }
 {
     match answer {
-        Answer::Plan(its, price) => {
-            set[0] = its;
-            put_cost(price, cost);
+        Ok(plan) => {
+            set.copy_from_slice(&[plan.set]);
+            put_cost(plan.cost, cost);
             0
         }
-        Answer::Refused(refusal) => {
-            set[0] = 0;
-            let none = Cost {
-                first: 0,
-                second: 0,
-                third: 0,
-            };
-            put_cost(none, cost);
-            refusal.number
+        Err(refusal) => {
+            set.copy_from_slice(&[0]);
+            cost.copy_from_slice(&[0, 0, 0]);
+            u8::from(refusal)
         }
     }
 }
@@ -68,14 +63,17 @@ pub extern "C" fn boxplan_first(
 ) -> u8
     ensures { ListsC (λ a b. Firsts (lent entries.now slots.now text.now (settings_of root mode cycles) objectives.now) plan.old a b) plan.old set.old cost.old result plan.new set.new cost.new }
 {
-    if set.len() != 1 {
-        return 7;
+    if set.len() != 1 || cost.len() != 3 {
+        return u8::from(Refusal::Size);
     }
-    if cost.len() != 3 {
-        return 7;
-    }
-    let settings = Settings { root, mode, cycles };
-    let answer = lister::first(entries, slots, text, settings, objectives, plan);
+    let lent = Lent {
+        entries,
+        slots,
+        text,
+        settings: Settings { root, mode, cycles },
+        objectives,
+    };
+    let answer = lister::first(&lent, plan);
     hand_out(answer, set, cost)
 }
 
@@ -96,34 +94,33 @@ pub extern "C" fn boxplan_next(
 ) -> u8
     ensures { ListsC (λ a b. Nexts (lent entries.now slots.now text.now (settings_of root mode cycles) objectives.now) given plan.old a b) plan.old set.old cost.old result plan.new set.new cost.new }
 {
-    if set.len() != 1 {
-        return 7;
+    if set.len() != 1 || cost.len() != 3 {
+        return u8::from(Refusal::Size);
     }
-    if cost.len() != 3 {
-        return 7;
-    }
-    let settings = Settings { root, mode, cycles };
-    let answer = lister::next(entries, slots, text, settings, objectives, given, plan);
+    let lent = Lent {
+        entries,
+        slots,
+        text,
+        settings: Settings { root, mode, cycles },
+        objectives,
+    };
+    let answer = lister::next(&lent, given, plan);
     hand_out(answer, set, cost)
 }
 
 // A reading put into its slice.
-fn hand_fit(reading: Reading, fit: &mut [u8]) -> u8
+fn hand_fit(reading: Result<bool, Refusal>, fit: &mut [u8]) -> u8
     requires { length fit.old ≡ 1 }
     ensures { (result ≡ reading_number reading) × (fit.new ≡ fit_of reading ∷ []) }
 {
     match reading {
-        Reading::Fits => {
-            fit[0] = 1;
+        Ok(fits) => {
+            fit.copy_from_slice(&[u8::from(fits)]);
             0
         }
-        Reading::Misfits => {
-            fit[0] = 0;
-            0
-        }
-        Reading::Refused(refusal) => {
-            fit[0] = 0;
-            refusal.number
+        Err(refusal) => {
+            fit.copy_from_slice(&[0]);
+            u8::from(refusal)
         }
     }
 }
@@ -140,7 +137,7 @@ pub extern "C" fn boxplan_fits(
     ensures { FitsC part.now (version_of major minor patch) fit.old result fit.new }
 {
     if fit.len() != 1 {
-        return 7;
+        return u8::from(Refusal::Size);
     }
     let version = Version {
         major,
@@ -152,30 +149,25 @@ pub extern "C" fn boxplan_fits(
 }
 
 // A check's answer put into its slices.
-fn hand_checked(checked: Checked, condition: &mut [u8], cost: &mut [u32]) -> u8
+fn hand_checked(checked: Result<Cost, Fault>, condition: &mut [u8], cost: &mut [u32]) -> u8
     requires condition_sized { length condition.old ≡ 1 }
     requires cost_sized { length cost.old ≡ 3 }
     ensures { (result ≡ checked_number checked) × ((condition.new ≡ condition_of checked ∷ []) × (cost.new ≡ three (checked_cost checked))) }
 {
-    let none = Cost {
-        first: 0,
-        second: 0,
-        third: 0,
-    };
     match checked {
-        Checked::Refused(refusal) => {
-            condition[0] = 0;
-            put_cost(none, cost);
-            refusal.number
-        }
-        Checked::Broken(its) => {
-            condition[0] = its;
-            put_cost(none, cost);
+        Ok(price) => {
+            condition.copy_from_slice(&[0]);
+            put_cost(price, cost);
             0
         }
-        Checked::Sound(price) => {
-            condition[0] = 0;
-            put_cost(price, cost);
+        Err(Fault::Refused(refusal)) => {
+            condition.copy_from_slice(&[0]);
+            cost.copy_from_slice(&[0, 0, 0]);
+            u8::from(refusal)
+        }
+        Err(Fault::Broken(its)) => {
+            condition.copy_from_slice(&[u8::from(its)]);
+            cost.copy_from_slice(&[0, 0, 0]);
             0
         }
     }
@@ -198,14 +190,17 @@ pub extern "C" fn boxplan_check(
 ) -> u8
     ensures { ChecksC (lent entries.now slots.now text.now (settings_of root mode cycles) objectives.now) set table.now condition.old cost.old result condition.new cost.new }
 {
-    if condition.len() != 1 {
-        return 7;
+    if condition.len() != 1 || cost.len() != 3 {
+        return u8::from(Refusal::Size);
     }
-    if cost.len() != 3 {
-        return 7;
-    }
-    let settings = Settings { root, mode, cycles };
-    let checked = plan::check(entries, slots, text, settings, objectives, set, table);
+    let lent = Lent {
+        entries,
+        slots,
+        text,
+        settings: Settings { root, mode, cycles },
+        objectives,
+    };
+    let checked = plan::check(&lent, &Plan { set, table });
     hand_checked(checked, condition, cost)
 }
 
@@ -215,8 +210,8 @@ fn hand_back(listing: ListingRecord, stage: &mut [u8], last: &mut [u64])
     requires last_sized { length last.old ≡ 1 }
     ensures { (stage.new ≡ listing.stage ∷ []) × (last.new ≡ listing.last ∷ []) }
 {
-    stage[0] = listing.stage;
-    last[0] = listing.last;
+    stage.copy_from_slice(&[listing.stage]);
+    last.copy_from_slice(&[listing.last]);
 }
 
 // The listing a turn further.
@@ -237,45 +232,38 @@ pub extern "C" fn boxplan_turn(
 ) -> u8
     ensures { TurnsC (lent entries.now slots.now text.now (settings_of root mode cycles) objectives.now) stage.old last.old plan.old set.old cost.old result stage.new last.new plan.new set.new cost.new }
 {
-    if stage.len() != 1 {
-        return 7;
-    }
-    if last.len() != 1 {
-        return 7;
-    }
-    if set.len() != 1 {
-        return 7;
-    }
-    if cost.len() != 3 {
-        return 7;
+    if stage.len() != 1 || last.len() != 1 || set.len() != 1 || cost.len() != 3 {
+        return u8::from(Refusal::Size);
     }
     let listing = ListingRecord {
         stage: stage[0],
         last: last[0],
     };
-    let settings = Settings { root, mode, cycles };
-    let t = turned(listing, entries, slots, text, settings, objectives, plan);
-    let next = t.listing;
-    hand_back(next, stage, last);
-    let answer = t.answer;
-    hand_out(answer, set, cost)
+    let lent = Lent {
+        entries,
+        slots,
+        text,
+        settings: Settings { root, mode, cycles },
+        objectives,
+    };
+    let turned = turned(listing, &lent, plan);
+    hand_back(turned.listing, stage, last);
+    hand_out(turned.answer, set, cost)
 }
 
 // A sheet's counts put into their slice.
-fn hand_counts(sheet: Sheet, counts: &mut [u16]) -> u8
+fn hand_counts(sheet: Result<Sheet, Refusal>, counts: &mut [u16]) -> u8
     requires { length counts.old ≡ 2 }
     ensures { (result ≡ sheet_number sheet) × (counts.new ≡ entries_of sheet ∷ slots_of sheet ∷ []) }
 {
     match sheet {
-        Sheet::Holds { entries, slots } => {
-            counts[0] = entries;
-            counts[1] = slots;
+        Ok(sheet) => {
+            counts.copy_from_slice(&[sheet.entries, sheet.slots]);
             0
         }
-        Sheet::Refused(refusal) => {
-            counts[0] = 0;
-            counts[1] = 0;
-            refusal.number
+        Err(refusal) => {
+            counts.copy_from_slice(&[0, 0]);
+            u8::from(refusal)
         }
     }
 }
@@ -291,7 +279,7 @@ pub extern "C" fn boxplan_read(
     ensures { ReadsC text.now entries.old slots.old counts.old result entries.new slots.new counts.new }
 {
     if counts.len() != 2 {
-        return 7;
+        return u8::from(Refusal::Size);
     }
     let sheet = csv_text::read(text, entries, slots);
     hand_counts(sheet, counts)

@@ -2,6 +2,7 @@
 pub mod Answers
 pub mod Decide
 pub mod Lists
+pub mod Refusals
 pub mod Rows
 pub mod Runs
 pub mod Split

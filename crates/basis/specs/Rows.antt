@@ -2,6 +2,7 @@
 -- the call's number. The six conditions of a plan are rows too: the first that fails names the plan's fault.
 use Rattle.std.specs.Prelude.{◌≡◌, List, [], ◌∷◌, ◌⊎◌, ℕ}
 use Rattle.basis.specs.declared.Refusal.{Refusal}
+use Rattle.basis.specs.declared.Refusal.TheVariants.{Entries, EntryTwice, Slots, Constraint, Root, Settings, Size, Weights, Stage, Unsound, NoPlan, Text}
 
 pub record Row : Type 1 where
   pub number : ℕ
@@ -20,6 +21,17 @@ abbrev pub GivesNone : List Row → Type 0
 GivesNone [] = Unit {0}
 GivesNone (r ∷ rs) = ¬ r.applies × GivesNone rs
 
--- the refusal with a number
-abbrev pub refusal : ℕ → Refusal
-refusal n = record { number = n }
+-- a refusal's number
+abbrev pub number_of : Refusal → ℕ
+number_of Entries = 1
+number_of EntryTwice = 2
+number_of Slots = 3
+number_of Constraint = 4
+number_of Root = 5
+number_of Settings = 6
+number_of Size = 7
+number_of Weights = 8
+number_of Stage = 9
+number_of Unsound = 10
+number_of NoPlan = 11
+number_of Text = 12

@@ -2,3 +2,4 @@
 pub mod Bits
 pub mod Changes
 pub mod Search
+pub mod Walk

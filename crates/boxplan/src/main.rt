@@ -5,7 +5,8 @@ ghost use Rattle.std.specs.Prelude.{◌≤◌, length};
 
 use std::io::{self, Read, Write};
 
-// Reads until the buffer is full, the input ends or a read fails, and says how many bytes stand at its start.
+// Reads until the buffer is full, the input ends or a read fails, and says how many bytes stand at its start. It stays a loop over `read`: there is no heap for
+// `read_to_end`, and `read_exact` does not say how many bytes it has read where the input ends early.
 fn fill<R: Read>(from: &mut R, buffer: &mut [u8]) -> usize
     ensures { result ≤ length buffer.new }
 {

@@ -4,17 +4,19 @@ use mathlib.Core.Bool.{Bool}
 use mathlib.Core.List.{List}
 use Prim.Native.Nat.{ℕ, ◌+◌, ◌*◌, ◌^◌, ◌≤◌, ◌<◌}
 use native.Mathlib.Omega.{arith}
+use lib.Dec.{eqb, eqb→eq}
 use lib.ListN.{length, get_or, take}
 use lib.Seq.{length-take-le, get_or-take}
+use Rattle.std.proofs.lemmas.List.{get_or_default}
 use Rattle.basis.specs.Tests.{Decides}
-use Rattle.basis.proofs.Decide.{decides_by}
+use Rattle.basis.proofs.Decide.{decides_by, decides_eq}
 use Rattle.constraint.specs.declared.Version.{Version}
 use Rattle.constraint.specs.Meaning.{Same}
 use Rattle.constraint.specs.Selection.{unkey}
 use Rattle.constraint.proofs.Packed.{Small, key_below, unkey_key}
 use Rattle.catalogue.specs.Tables.{Lent, entry_count, package_of, version_of}
 use Rattle.catalogue.specs.Refusals.{EntryTwice}
-use Rattle.catalogue.specs.Parts.{entry_key, entry_name, Lists, StandsTwice}
+use Rattle.catalogue.specs.Parts.{entry_key, entry_name, Lists, StandsTwice, Repeats}
 
 -- every number of a table fits 16 bits
 abbrev pub Numbers16 : List ℕ → Type 0
@@ -69,3 +71,19 @@ module _ (L : Lent) (small : Numbers16 L.entries) where
           let d = t.2.0 in
           let l : d < n = omega (arith, t.1, t.2.1) in
           (e, omega (arith, t.1, size), (d, t.2.1, name_at d l ∙ name_same d e t.2.2 ∙ sym (name_at e t.1)))
+
+-- numbers that are told apart by their equality
+pub numbers_twice : {b : Bool} (numbers : List ℕ) → Decides b (Repeats eqb numbers) → Decides b (StandsTwice numbers)
+numbers_twice numbers =
+    decides_by
+    (λ x. (x.0, x.1, (x.2.0, x.2.1, eqb→eq _ _ (x.2.2 0))))
+    (λ x. (
+      x.0,
+      x.1,
+      (
+        x.2.0,
+        x.2.1,
+        λ past. (decides_eq _ _).full
+            (get_or_default numbers x.2.0 past 0 (omega (arith, x.1, x.2.1)) ∙ x.2.2 ∙ get_or_default numbers x.0 0 past x.1),
+      ),
+    ))

@@ -1,76 +1,28 @@
--- The sets of entries that a survey makes: the entries of a package, gathered one by one; those of them that satisfy a slot's constraint; and the list of every slot's
--- set, filled from the front.
-use mathlib.Core.Path.{◌≡◌, refl, ◌∙◌}
+-- The sets of entries that a survey makes: those that satisfy a slot's constraint, met with those of the wanted package; and the list of every slot's set, filled from
+-- the front.
+use mathlib.Core.Path.{◌≡◌, ◌∙◌}
 use mathlib.Core.List.{List}
-use mathlib.Core.Logic.{◌⊎◌, inl, inr, ⊎_elim}
-use Prim.Native.Nat.{ℕ, zero, suc, ◌+◌, ◌≤◌, ◌<◌}
+use Prim.Native.Nat.{ℕ, ◌+◌, ◌≤◌, ◌<◌}
 use native.Mathlib.Nat.{not-suc-le-zero}
-use native.Mathlib.Decide.{ℕ_discrete}
 use native.Mathlib.Omega.{arith}
 use lib.Bits.{bit_and}
 use lib.ListN.{length, get_or, set as store, replicate, length-set, length-replicate}
 use lib.Seq.{get_or-set_same, get_or-set_other}
 use borrow.Author.Count.{below_more}
 use Rattle.bitset.specs.Bits.{Member}
-use Rattle.bitset.specs.Changes.{With}
-use Rattle.bitset.proofs.Sets.{none_in_empty}
 use Rattle.bitset.proofs.Made.{meet_members}
 use Rattle.constraint.specs.Meaning.{Constraint}
 use Rattle.constraint.specs.Spelling.{ReadAs, Readable}
-use Rattle.constraint.specs.declared.Selection.{Selection}
-use Rattle.constraint.specs.declared.Selection.TheVariants.{Versions, Unread}
-use Rattle.constraint.specs.Selection.{unkey, Picks, Selects, read, unread}
+use Rattle.constraint.specs.Selection.{Picks}
 use Rattle.constraint.proofs.Unique.{read_once}
-use Rattle.catalogue.specs.declared.Survey.{Survey}
-use Rattle.catalogue.specs.declared.Fitting.{Fitting}
-use Rattle.catalogue.specs.Tables.{Lent, entry_count, package_of, version_of, slot_count, wanted_by, part_of}
+use Rattle.catalogue.specs.Tables.{Lent, entry_count, slot_count, wanted_by, part_of}
 use Rattle.catalogue.specs.Refusals.{ConstraintUnread}
 use Rattle.catalogue.specs.Gives.{Fits}
-use Rattle.catalogue.specs.Steps.{Keys, OfPackage, Marks, FitsOf, Finds, set_found, set_unread, FindsAll, sets_found, sets_unread, Refuses}
-use Rattle.catalogue.proofs.Names.{Numbers16, version_back}
+use Rattle.catalogue.specs.Survey.{Indexes}
+use Rattle.catalogue.specs.Steps.{Keys, OfPackage, FitsOf}
+use Rattle.catalogue.proofs.Searches.{zero_at}
 
-module _ (L : Lent) (wanted : ℕ) where
-  pub marks_with : (set e r : ℕ) → e < 64 → package_of L e ≡ wanted → With set e r → Marks L wanted set e r
-  marks_with set e r h p w = record { members = λ d. (λ m. from d ((w.members h d).0 m), λ m. (w.members h d).1 (into d m)) }
-    where
-      from : (d : ℕ) → (d ≡ e) ⊎ Member set d → Member set d ⊎ ((d ≡ e) × (package_of L e ≡ wanted))
-      from d (inl q) = inr (q, p)
-      from d (inr m) = inl m
-
-      into : (d : ℕ) → Member set d ⊎ ((d ≡ e) × (package_of L e ≡ wanted)) → (d ≡ e) ⊎ Member set d
-      into d (inl m) = inr m
-      into d (inr q) = inl q.0
-
-  pub marks_same : (set e : ℕ) → ¬ (package_of L e ≡ wanted) → Marks L wanted set e set
-  marks_same set e n = record { members = λ d. (λ m. inl m, λ m. ⊎_elim (λ x. x) (λ x. absurd (n x.1)) m) }
-
-  pub package_none : OfPackage L wanted 0 0
-  package_none e = (λ m. absurd (none_in_empty e m), λ x. absurd (not-suc-le-zero x.0))
-
-  pub package_more : (n set r : ℕ) → OfPackage L wanted n set → Marks L wanted set n r → OfPackage L wanted (n + 1) r
-  package_more n set r o k e = (λ m. from ((k.members e).0 m), λ x. (k.members e).1 (into (ℕ_discrete e n) x))
-    where
-      from : Member set e ⊎ ((e ≡ n) × (package_of L n ≡ wanted)) → (e < n + 1) × (package_of L e ≡ wanted)
-      from (inl m) = let x = (o e).0 m in (omega (arith, x.0), x.1)
-      from (inr q) = (omega (arith, q.0), rw q.0 q.1)
-
-      into : Dec (e ≡ n) → (e < n + 1) × (package_of L e ≡ wanted) → Member set e ⊎ ((e ≡ n) × (package_of L n ≡ wanted))
-      into (yes q) x = inr (q, rw q at x.1)
-      into (no f) x = inl ((o e).1 (omega (arith, x.0), x.1))
-
--- what a reading's answer tells
-pub selected : {part keys : List ℕ} {a : Selection} {set : ℕ} → Selects part keys a → a ≡ Versions set → (c : Constraint) × ReadAs part c × Picks keys c set
-selected {set = set} (read {c} {set = other} r picks e) h = let same : other ≡ set = cc in (c, r, rw same at picks)
-selected (unread n e) h = let z : ◌≡◌ {A = ℕ} 0 1 = cc in absurd (omega arith)
-
-pub not_selected : {part keys : List ℕ} {a : Selection} → Selects part keys a → a ≡ Unread → ¬ Readable part
-not_selected (read r picks e) h = let z : ◌≡◌ {A = ℕ} 0 1 = cc in absurd (omega arith)
-not_selected (unread n e) h = n
-
-module _ (L : Lent) (small : Numbers16 L.entries) (keys : List ℕ) (keyed : Keys L.entries keys) where
-  key_version : (e : ℕ) → e < entry_count L → unkey (get_or keys e 0) ≡ version_of L e
-  key_version e h = rw (keyed.each e h) (version_back L small e)
-
+module _ (L : Lent) (keys : List ℕ) (keyed : Keys L.entries keys) where
   -- the entries whose version satisfies the slot's constraint, met with those of the wanted package, are those that fit the slot
   met_fits : (s : ℕ) {c : Constraint} (set others : ℕ) → ReadAs (part_of L s) c → Picks keys c set → OfPackage L (wanted_by L s) (entry_count L) others
       → FitsOf L s (bit_and set others)
@@ -80,37 +32,19 @@ module _ (L : Lent) (small : Numbers16 L.entries) (keys : List ℕ) (keyed : Key
       from m =
           let x = (picks e).0 m.0 in
           let y = (o e).0 m.1 in
-          (y.0, record { wanted = y.1; constraint = c; read = r; satisfied = rw (key_version e y.0) at x.1 })
+          (y.0, record { wanted = y.1; constraint = c; read = r; satisfied = rw (keyed.back e y.0) at x.1 })
 
       into : e < entry_count L → Fits L s e → Member set e × Member others e
       into h f = (
-        (picks e).1 (omega (arith, keyed.size), rw (key_version e h) (rw (read_once f.read r) at f.satisfied)),
+        (picks e).1 (omega (arith, keyed.size), rw (keyed.back e h) (rw (read_once f.read r) at f.satisfied)),
         (o e).1 (h, f.wanted),
       )
 
-  pub finds_set : (s : ℕ) {part : List ℕ} {a : Selection} {set : ℕ} (wanted others : ℕ) → part ≡ part_of L s → Selects part keys a → a ≡ Versions set → wanted ≡ wanted_by L s
-      → OfPackage L wanted (entry_count L) others → Finds L s (record { number = 0; set = bit_and set others })
-  finds_set s {set = set} wanted others p answers e w o =
-      let got = selected (rw p at answers) e in
-      set_found (got.0, got.1) refl (met_fits s set others got.1 got.2 (rw w at o))
-
-  pub finds_unread : (s : ℕ) {part : List ℕ} {a : Selection} → part ≡ part_of L s → Selects part keys a → a ≡ Unread → Finds L s (record { number = 4; set = 0 })
-  finds_unread s p answers e = set_unread (not_selected (rw p at answers) e) refl refl
-
--- what a slot's number tells
-pub slot_read : {L : Lent} {s : ℕ} {a : Fitting} → Finds L s a → a.number ≡ 0 → Readable (part_of L s) × FitsOf L s a.set
-slot_read (set_found r e f) z = (r, f)
-slot_read (set_unread n e u) z = absurd (omega arith)
-
-pub slot_unread : {L : Lent} {s : ℕ} {a : Fitting} → Finds L s a → ¬ (a.number ≡ 0) → (¬ Readable (part_of L s)) × (a.number ≡ 4)
-slot_unread (set_found r e f) z = absurd (z e)
-slot_unread (set_unread n e u) z = (n, e)
-
--- a list of zeros has 0 everywhere
-zero_at : (n s : ℕ) → ◌≡◌ {A = ℕ} (get_or (replicate n 0) s 0) 0
-zero_at zero s = refl
-zero_at (suc n) zero = refl
-zero_at (suc n) (suc s) = zero_at n s
+  pub finds_set : (s : ℕ) {part : List ℕ} (set wanted others : ℕ) → part ≡ part_of L s → (c : Constraint) × ReadAs part c × Picks keys c set → wanted ≡ wanted_by L s
+      → OfPackage L wanted (entry_count L) others → Readable (part_of L s) × FitsOf L s (bit_and set others)
+  finds_set s set wanted others p answers w o =
+      let got : (c : Constraint) × ReadAs (part_of L s) c × Picks keys c set = rw p at answers in
+      ((got.0, got.1), met_fits s set others got.1 got.2 (rw w at o))
 
 -- the sets of the slots below n, and 0 from there on
 pub record Filled (L : Lent) (n : ℕ) (fits : List ℕ) : Type 0 where
@@ -145,11 +79,5 @@ module _ (L : Lent) where
         beyond = λ s k. there s (λ q. omega arith) ∙ filled.beyond s (omega arith);
       }
 
-  pub one_unread : {a : Survey} (s n : ℕ) → s < slot_count L → ¬ Readable (part_of L s) → n ≡ 4 → Refuses n a → FindsAll L a
-  one_unread s n h u e r = sets_unread (s, h, u) (r.number ∙ e) r.empty
-
-  all_read : (fits : List ℕ) → Filled L (slot_count L) fits → ¬ ConstraintUnread L
-  all_read fits filled u = u.2 (filled.read u.0 u.1)
-
-  pub filled_all : (fits : List ℕ) → Filled L (slot_count L) fits → FindsAll L (record { number = 0; fits = fits })
-  filled_all fits filled = sets_found (all_read fits filled) refl (record { members = filled.members; beyond = filled.beyond })
+  pub filled_all : (fits : List ℕ) → Filled L (slot_count L) fits → (¬ ConstraintUnread L) × Indexes L fits
+  filled_all fits filled = (λ u. u.2 (filled.read u.0 u.1), record { members = filled.members; beyond = filled.beyond })

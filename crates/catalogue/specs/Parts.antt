@@ -1,6 +1,6 @@
 -- Catalogues of which only some tables are looked at, so that each refusal's condition is stated over just what its test is lent; what is left out is empty, and
 -- no such condition reads it. And what the tests of entries go by: an entry's name, its package and version in one number, and a number that stands twice in a list.
-use Rattle.std.specs.Prelude.{◌≡◌, List, [], ℕ, ◌+◌, ◌*◌, ◌^◌, ◌<◌, length, get_or}
+use Rattle.std.specs.Prelude.{◌≡◌, List, [], ℕ, Bool, T, ◌+◌, ◌*◌, ◌^◌, ◌<◌, length, get_or}
 use Rattle.constraint.specs.Selection.{key}
 use Rattle.catalogue.specs.declared.Settings.{Settings}
 use Rattle.catalogue.specs.Tables.{Lent, lent, entry_count, package_of, version_of}
@@ -34,6 +34,13 @@ StandsBefore numbers i = (j : ℕ) × (j < i) × (get_or numbers j 0 ≡ get_or 
 
 abbrev pub StandsTwice : List ℕ → Type 0
 StandsTwice numbers = (i : ℕ) × (i < length numbers) × StandsBefore numbers i
+
+-- the same of items of any type, where `same` tells whether two are equal; what a list has past its end is of no matter
+abbrev pub RepeatsAt : {A : Type 0} → (A → A → Bool) → List A → ℕ → Type 0
+RepeatsAt {A} same items i = (j : ℕ) × (j < i) × ((past : A) → T (same (get_or items j past) (get_or items i past)))
+
+abbrev pub Repeats : {A : Type 0} → (A → A → Bool) → List A → Type 0
+Repeats same items = (i : ℕ) × (i < length items) × RepeatsAt same items i
 
 -- an entry's version in one number below 2 ^ 48
 abbrev pub entry_key : Lent → ℕ → ℕ

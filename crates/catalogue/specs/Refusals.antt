@@ -1,5 +1,5 @@
--- What each of the refusals 1 to 8 means on the tables, text, settings and plan buffer, and the rows in which they are tested (document 01, "Calls and what they give
--- back"). Outside read the lowest number that applies is given, so the rows rise.
+-- What each of the refusals 1 to 8 means on the tables, text, settings and plan buffer, and the rows in which they are tested. Outside read the lowest number that
+-- applies is given, so the rows rise.
 use Rattle.std.specs.Prelude.{◌≡◌, List, [], ◌∷◌, ◌⊎◌, ℕ, suc, ◌%◌, ◌^◌, ◌≤◌, ◌<◌, length, get_or}
 use Rattle.basis.specs.Rows.{Row, row}
 use Rattle.basis.specs.Sum.{sum}

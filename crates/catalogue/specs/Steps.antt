@@ -1,12 +1,13 @@
 -- The steps of a survey and what each answers. The rows are tested in three steps: those on the tables, before any part of the text is cut; that of the constraints, as
 -- every slot's set is made; and those on what is set for the call.
-use Rattle.std.specs.Prelude.{◌≡◌, List, [], ◌∷◌, ◌++◌, ◌⊎◌, ◌↔◌, ℕ, ◌≤◌, ◌<◌, length, get_or, replicate}
-use Rattle.basis.specs.Rows.{Row, row, Gives, GivesNone}
+use Rattle.std.specs.Prelude.{◌≡◌, List, [], ◌∷◌, ◌++◌, ◌↔◌, ℕ, ◌≤◌, ◌<◌, length, get_or, Result, MatchResult}
+use Rattle.basis.specs.declared.Refusal.{Refusal}
+use Rattle.basis.specs.declared.Refusal.TheVariants.{Constraint}
+use Rattle.basis.specs.Rows.{Row, row, Gives, GivesNone, number_of}
 use Rattle.bitset.specs.Bits.{Member}
 use Rattle.constraint.specs.Spelling.{Readable}
-use Rattle.catalogue.specs.declared.Survey.{Survey}
-use Rattle.catalogue.specs.declared.Fitting.{Fitting}
-use Rattle.catalogue.specs.Tables.{Lent, entry_count, package_of, slot_count, start_of, end_of, part_of}
+use Rattle.constraint.specs.Selection.{unkey}
+use Rattle.catalogue.specs.Tables.{Lent, entry_count, package_of, version_of, slot_count, start_of, end_of, part_of}
 use Rattle.catalogue.specs.Refusals.{EntriesMisshapen, EntryTwice, SlotsMisshapen, OwnerMissing, OwnersFall, MarksCross, EndPastText, ConstraintUnread, RootMissing, ModeUnknown, CyclesUnknown, ObjectivesMisnumbered, ObjectiveUnknown, ObjectiveTwice, BufferMisfits, WeightsOverflow}
 use Rattle.catalogue.specs.Gives.{Fits}
 use Rattle.catalogue.specs.Survey.{Indexes}
@@ -38,10 +39,9 @@ size_rows L room = row 7 (BufferMisfits L room) ∷ row 8 (WeightsOverflow L) �
 abbrev pub setup_rows : Lent → ℕ → List Row
 setup_rows L room = setting_rows L ++ (objective_rows L ++ size_rows L room)
 
--- n is the number of the first row that applies, and 0 where none does
-pub data Numbered (rs : List Row) (n : ℕ) : Type 0 where
-  given : Gives rs n → ¬ (n ≡ 0) → Numbered rs n
-  clear : GivesNone rs → n ≡ 0 → Numbered rs n
+-- the refusal has the number of the first row that applies, and where there is none no row does
+abbrev pub Numbered : List Row → Result Unit Refusal → Type 0
+Numbered rs a = MatchResult a (λ u. GivesNone rs) (λ r. Gives rs (number_of r))
 
 -- what the later steps go by, once no row on the tables applies
 pub record Shaped (L : Lent) : Type 0 where
@@ -50,34 +50,24 @@ pub record Shaped (L : Lent) : Type 0 where
   pub marks : (s : ℕ) → s < slot_count L → start_of L s ≤ end_of L s
   pub within : (s : ℕ) → s < slot_count L → end_of L s ≤ length L.text
 
--- the numbers are the keys of the versions of the entries
+-- the numbers are the keys of the versions of the entries, and tell the versions
 pub record Keys (entries numbers : List ℕ) : Type 0 where
   pub size : length numbers ≡ entry_count (entries_alone entries)
   pub each : (e : ℕ) → e < entry_count (entries_alone entries) → get_or numbers e 0 ≡ entry_key (entries_alone entries) e
+  pub back : (e : ℕ) → e < entry_count (entries_alone entries) → unkey (get_or numbers e 0) ≡ version_of (entries_alone entries) e
 
 -- the set of the entries below n of a package
 abbrev pub OfPackage : Lent → ℕ → ℕ → ℕ → Type 0
 OfPackage L wanted n set = (e : ℕ) → Member set e ↔ ((e < n) × (package_of L e ≡ wanted))
 
--- a set with entry e too, where e is of the package
-pub record Marks (L : Lent) (wanted set e r : ℕ) : Type 0 where
-  pub members : (d : ℕ) → Member r d ↔ (Member set d ⊎ ((d ≡ e) × (package_of L e ≡ wanted)))
-
 -- a set has the entries that fit slot s
 abbrev pub FitsOf : Lent → ℕ → ℕ → Type 0
 FitsOf L s set = (e : ℕ) → Member set e ↔ ((e < entry_count L) × Fits L s e)
 
--- what is found of slot s: the set of the entries that fit it, or 4 and no set
-pub data Finds (L : Lent) (s : ℕ) (a : Fitting) : Type 0 where
-  set_found : Readable (part_of L s) → a.number ≡ 0 → FitsOf L s a.set → Finds L s a
-  set_unread : ¬ Readable (part_of L s) → a.number ≡ 4 → a.set ≡ 0 → Finds L s a
+-- what is found of slot s: the set of the entries that fit it, or 4 where its constraint is not read
+abbrev pub Finds : Lent → ℕ → Result ℕ Refusal → Type 0
+Finds L s a = MatchResult a (λ set. Readable (part_of L s) × FitsOf L s set) (λ r. (¬ Readable (part_of L s)) × (r ≡ Constraint))
 
--- what is found of all slots: their sets, or 4 and no set
-pub data FindsAll (L : Lent) (a : Survey) : Type 0 where
-  sets_found : ¬ ConstraintUnread L → a.number ≡ 0 → Indexes L a.fits → FindsAll L a
-  sets_unread : ConstraintUnread L → a.number ≡ 4 → a.fits ≡ replicate 256 0 → FindsAll L a
-
--- a refusal: its number, and every set 0
-pub record Refuses (n : ℕ) (a : Survey) : Type 0 where
-  pub number : a.number ≡ n
-  pub empty : a.fits ≡ replicate 256 0
+-- what is found of all slots: their sets, or 4 where some constraint is not read
+abbrev pub FindsAll : Lent → Result (List ℕ) Refusal → Type 0
+FindsAll L a = MatchResult a (λ fits. (¬ ConstraintUnread L) × Indexes L fits) (λ r. ConstraintUnread L × (r ≡ Constraint))

@@ -1,10 +1,10 @@
--- What a survey of a catalogue answers: the refusal, or none and for every slot the set of the entries that fit it; and the problem that such sets give.
-use Rattle.std.specs.Prelude.{◌≡◌, List, [], ◌↔◌, ℕ, ◌≤◌, ◌<◌, get_or, replicate}
-use Rattle.basis.specs.Rows.{Gives, GivesNone}
+-- What a survey of a catalogue answers: the refusal, or for every slot the set of the entries that fit it; and the problem that such sets give.
+use Rattle.std.specs.Prelude.{◌≡◌, List, [], ◌↔◌, ℕ, ◌≤◌, ◌<◌, get_or, Result, Ok, Err}
+use Rattle.basis.specs.declared.Refusal.{Refusal}
+use Rattle.basis.specs.Rows.{Gives, GivesNone, number_of}
 use Rattle.bitset.specs.Bits.{Member}
 use Rattle.pacsolve.specs.Problem.{Problem}
 use Rattle.catalogue.specs.declared.Settings.{Settings}
-use Rattle.catalogue.specs.declared.Survey.{Survey}
 use Rattle.catalogue.specs.Tables.{Lent, lent, entry_count, package_of, version_of, weight_of, slot_count, owner_of}
 use Rattle.catalogue.specs.Refusals.{rows}
 use Rattle.catalogue.specs.Gives.{Fits, Together}
@@ -14,10 +14,10 @@ pub record Indexes (L : Lent) (fits : List ℕ) : Type 0 where
   pub members : (s : ℕ) → s < slot_count L → (e : ℕ) → Member (get_or fits s 0) e ↔ ((e < entry_count L) × Fits L s e)
   pub beyond : (s : ℕ) → slot_count L ≤ s → get_or fits s 0 ≡ 0
 
--- THE RELATION of a survey: number 0 where nothing is refused; the sets are all 0 where something is
-pub data Surveys (L : Lent) (room : ℕ) (a : Survey) : Type 0 where
-  refused : Gives (rows L room) a.number → a.fits ≡ replicate 256 0 → Surveys L room a
-  sane : GivesNone (rows L room) → a.number ≡ 0 → Indexes L a.fits → Surveys L room a
+-- THE RELATION of a survey: the refusal whose number the first row that applies has, or where none does the sets
+pub data Surveys (L : Lent) (room : ℕ) (a : Result (List ℕ) Refusal) : Type 0 where
+  refused : {r : Refusal} → Gives (rows L room) (number_of r) → a ≡ Err r → Surveys L room a
+  sane : {fits : List ℕ} → GivesNone (rows L room) → a ≡ Ok fits → Indexes L fits → Surveys L room a
 
 -- the problem whose fits are given by sets, one per slot
 abbrev pub indexed : Lent → List ℕ → Problem

@@ -1,7 +1,8 @@
--- The lent tables and text, as lists of numbers, and the fields of an entry and of a slot (document 01, "The lent tables").
+-- The lent tables and text, as lists of numbers, and the fields of an entry and of a slot.
 use Rattle.std.specs.Prelude.{List, ℕ, ◌+◌, ◌-◌, ◌*◌, ◌/◌, length, get_or, take, drop}
 use Rattle.constraint.specs.declared.Version.{Version}
 use Rattle.catalogue.specs.declared.Settings.{Settings}
+use Rattle.catalogue.specs.declared.Lent.{Lent as Lending}
 
 -- all that is lent and set for a call, but the plan
 pub record Lent : Type 0 where
@@ -13,6 +14,10 @@ pub record Lent : Type 0 where
 
 abbrev pub lent : List ℕ → List ℕ → List ℕ → Settings → List ℕ → Lent
 lent entries slots text settings objectives = record { entries = entries; slots = slots; text = text; settings = settings; objectives = objectives }
+
+-- the same of what the code is lent, by its references
+abbrev pub lent_of : Lending → Lent
+lent_of l = lent l.entries.now l.slots.now l.text.now l.settings l.objectives.now
 
 -- five numbers per entry: package, major, minor, patch, weight
 abbrev pub entry_width : ℕ

@@ -10,9 +10,11 @@ mod refusals;
 mod setup;
 mod slots;
 pub mod spans;
+mod table;
+mod twice;
 mod weights;
 
-// The settings of a call (document 01, "The lent tables"). Every value is taken: one outside the rules is refused by its number.
+// The settings of a call. Every value is taken: one outside the rules is refused by its number.
 #[derive(Clone, Copy)]
 pub struct Settings {
     pub root: u16,
@@ -20,16 +22,12 @@ pub struct Settings {
     pub cycles: u8,
 }
 
-// What a survey of a catalogue gives: the number of the refusal, 0 for none, and for every slot the set of the entries that fit it.
+// All that is lent and set for a call, but the plan.
 #[derive(Clone, Copy)]
-pub struct Survey {
-    pub number: u8,
-    pub fits: [u64; 256],
-}
-
-// What reading one slot's constraint gives: the number of the refusal, 0 for none, and the set of the entries that fit the slot.
-#[derive(Clone, Copy)]
-pub struct Fitting {
-    pub number: u8,
-    pub set: u64,
+pub struct Lent<'a> {
+    pub entries: &'a [u16],
+    pub slots: &'a [u16],
+    pub text: &'a [u8],
+    pub settings: Settings,
+    pub objectives: &'a [u8],
 }

@@ -4,20 +4,14 @@ ghost use Rattle.catalogue.specs.Refusals.{SlotsMisshapen, OwnerMissing, OwnersF
 ghost use Rattle.catalogue.specs.Parts.{tables, slots_alone};
 ghost use Rattle.std.specs.Prelude.{[]};
 
-use crate::fields::slot_field;
+use crate::fields::{END, OWNER, START, slot_field};
 
 // Not a multiple of four, or over 256 slots.
 pub fn slots_misshapen(slots: &[u16]) -> bool
     ensures { Decides result (SlotsMisshapen (slots_alone slots.now)) }
 {
     let n = slots.len();
-    if n % 4 != 0 {
-        return true;
-    }
-    if n / 4 > 256 {
-        return true;
-    }
-    false
+    n % 4 != 0 || n / 4 > 256
 }
 
 // An owner that is no entry.
@@ -25,61 +19,26 @@ pub fn owner_missing(entries: &[u16], slots: &[u16]) -> bool
     ensures { Decides result (OwnerMissing (tables entries.now slots.now [])) }
 {
     let count = entries.len() / 5;
-    let n = slots.len() / 4;
-    let mut s = 0;
-    while s < n {
-        let owner = slot_field(slots, s, 0) as usize;
-        if owner >= count {
-            return true;
-        }
-        s += 1;
-    }
-    false
+    (0..slots.len() / 4).any(|s| usize::from(slot_field(slots, s, OWNER)) >= count)
 }
 
 // An owner below the one before.
 pub fn owners_fall(slots: &[u16]) -> bool
     ensures { Decides result (OwnersFall (slots_alone slots.now)) }
 {
-    let n = slots.len() / 4;
-    let mut s = 0;
-    while s + 1 < n {
-        let next = s + 1;
-        if slot_field(slots, next, 0) < slot_field(slots, s, 0) {
-            return true;
-        }
-        s = next;
-    }
-    false
+    (1..slots.len() / 4).any(|s| slot_field(slots, s, OWNER) < slot_field(slots, s - 1, OWNER))
 }
 
 // A start after its end.
 pub fn marks_cross(slots: &[u16]) -> bool
     ensures { Decides result (MarksCross (slots_alone slots.now)) }
 {
-    let n = slots.len() / 4;
-    let mut s = 0;
-    while s < n {
-        if slot_field(slots, s, 3) < slot_field(slots, s, 2) {
-            return true;
-        }
-        s += 1;
-    }
-    false
+    (0..slots.len() / 4).any(|s| slot_field(slots, s, END) < slot_field(slots, s, START))
 }
 
 // An end past the text.
 pub fn end_past_text(slots: &[u16], text: &[u8]) -> bool
     ensures { Decides result (EndPastText (tables [] slots.now text.now)) }
 {
-    let n = slots.len() / 4;
-    let mut s = 0;
-    while s < n {
-        let end = slot_field(slots, s, 3) as usize;
-        if end > text.len() {
-            return true;
-        }
-        s += 1;
-    }
-    false
+    (0..slots.len() / 4).any(|s| usize::from(slot_field(slots, s, END)) > text.len())
 }

@@ -1,16 +1,23 @@
 -- Bounds, part by part: what opens one, then three numbers, each with the byte that ends it.
 use mathlib.Core.Path.{◌≡◌, refl, sym, ap, ◌∙◌}
+use mathlib.Core.Bool.{Bool, true, false, cond}
 use mathlib.Core.List.{List, [], ◌∷◌, ◌++◌, append_assoc}
 use Prim.Native.Nat.{ℕ, ◌+◌}
 use native.Mathlib.Omega.{arith}
 use lib.ListN.{drop}
+use Rattle.std.specs.Prelude.{Option, None, Some, nat_eq}
+use Rattle.std.specs.List.{starts_with, find}
+use Rattle.std.proofs.lemmas.Option.{none-some}
 use Rattle.basis.specs.Bytes.{bytes}
 use Rattle.basis.proofs.Split.{Cut}
 use Rattle.constraint.specs.declared.Version.{Version}
-use Rattle.constraint.specs.Meaning.{Bound, equal, at_most, at_least_lem, caret, Constraint, any, bound, both, either}
+use Rattle.constraint.specs.declared.range.Sign.{Sign}
+use Rattle.constraint.specs.declared.range.Sign.TheVariants.{Equal, AtMost, AtLeast, Caret}
+use Rattle.constraint.specs.Range.{bound_of}
+use Rattle.constraint.specs.Meaning.{Bound, equal, at_most, no_less, caret, Constraint, any, bound, both, either}
 use Rattle.constraint.specs.Spelling.{Bounded, Spells}
 use Rattle.constraint.specs.Reader.{Begins, Never, Is, Ended, opened, Closed, IsBound}
-use Rattle.constraint.proofs.Beginnings.{Fixes, begins_as, begins_then, begins_third, never_as, never_first, never_then, never_third, word_fixes}
+use Rattle.constraint.proofs.Beginnings.{Fixes, begins_as, begins_then, begins_third, never_as, never_first, never_then, never_third, word_fixes, starts_no_word}
 use Rattle.constraint.proofs.Fields.{ended_fixes}
 use Rattle.constraint.proofs.Unique.{bounded, told}
 
@@ -66,13 +73,40 @@ module _ {text : List ℕ} where
   closed_no_third {x = x} {y = y} p q none b =
       never_as (parts_of b) (never_third (ended_fixes 32 x b.major (omega arith)) (ended_fixes 32 y b.minor (omega arith)) p q (none b.patch))
 
--- none of the four signs opens a bound
-pub opened_none : {text : List ℕ} → Never (Is (opened equal)) text → Never (Is (opened at_most)) text → Never (Is (opened at_least_lem)) text
-    → Never (Is (opened caret)) text → (o : Bound) → Never (Is (opened o)) text
-opened_none a b c d equal = a
-opened_none a b c d at_most = b
-opened_none a b c d at_least_lem = c
-opened_none a b c d caret = d
+-- the signs, in the order in which a text is compared with what opens a bound of each
+abbrev pub signs : List Sign
+signs = Equal ∷ AtMost ∷ AtLeast ∷ Caret ∷ []
+
+-- a search that finds nothing passes over each
+not_found : (b : Bool) (s : Sign) (rest : Option Sign) → None ≡ cond b (Some s) rest → (b ≡ false) × (None ≡ rest)
+not_found true s rest e = absurd (none-some s e)
+not_found false s rest e = (refl, e)
+
+none_passes : (test : Sign → Bool) → None ≡ find test signs → (s : Sign) → test s ≡ false
+none_passes test e =
+    let first = not_found (test Equal) _ _ e in
+    let second = not_found (test AtMost) _ _ first.1 in
+    let third = not_found (test AtLeast) _ _ second.1 in
+    of_all first.0 second.0 third.0 (not_found (test Caret) _ _ third.1).0
+  where
+    of_all : test Equal ≡ false → test AtMost ≡ false → test AtLeast ≡ false → test Caret ≡ false → (s : Sign) → test s ≡ false
+    of_all a b c d Equal = a
+    of_all a b c d AtMost = b
+    of_all a b c d AtLeast = c
+    of_all a b c d Caret = d
+
+-- so none of the four opens a bound
+pub opened_none : {text : List ℕ} → None ≡ find (λ (s : Sign). starts_with nat_eq text (opened (bound_of s))) signs
+    → (s : Sign) → Never (Is (opened (bound_of s))) text
+opened_none {text} e s =
+    starts_no_word (opened (bound_of s)) refl (none_passes (λ (s : Sign). starts_with nat_eq text (opened (bound_of s))) e s)
+
+-- each bound is a sign's
+of_signs : (P : Bound → Type 0) → ((s : Sign) → P (bound_of s)) → (o : Bound) → P o
+of_signs P f equal = f Equal
+of_signs P f at_most = f AtMost
+of_signs P f no_less = f AtLeast
+of_signs P f caret = f Caret
 
 -- a bound is what opens it and what closes it
 bounded_by : (o : Bound) (b : Version) (bs : List ℕ) → Cut (Is (opened o)) (Closed b) bs → Bounded o b bs
@@ -103,7 +137,7 @@ opened_told : (o : Bound) (s : List ℕ) → told (opened o ++ s) ≡ bounded o
 unfolding told
 opened_told equal s = refl
 opened_told at_most s = refl
-opened_told at_least_lem s = refl
+opened_told no_less s = refl
 opened_told caret s = refl
 
 opened_fixes : (o d : Bound) → Fixes (Is (opened o)) (Is (opened d))
@@ -119,9 +153,9 @@ module _ {text : List ℕ} where
   bound_read p q = begins_as (bounded_by _ _) (begins_then p q)
 
   -- none was opened, or the one that was is not closed
-  pub bound_not_opened : ((o : Bound) → Never (Is (opened o)) text) → (c : Constraint) → IsBound c → Never (Spells c) text
+  pub bound_not_opened : ((s : Sign) → Never (Is (opened (bound_of s))) text) → (c : Constraint) → IsBound c → Never (Spells c) text
   bound_not_opened none any m = absurd m
-  bound_not_opened none (bound o b) m = never_as (halves_of o b) (never_first (none o))
+  bound_not_opened none (bound o b) m = never_as (halves_of o b) (never_first (of_signs (λ d. Never (Is (opened d)) text) none o))
   bound_not_opened none (both c d) m = absurd m
   bound_not_opened none (either c d) m = absurd m
 

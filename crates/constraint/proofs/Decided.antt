@@ -11,7 +11,7 @@ use Rattle.basis.specs.Bytes.{bytes, All}
 use Rattle.basis.proofs.Decide.{both_or_not, either_or_not, or_not_by}
 use Rattle.basis.proofs.Split.{Cut, cut_or_not, equal_or_not}
 use Rattle.constraint.specs.declared.Version.{Version}
-use Rattle.constraint.specs.Meaning.{Bound, equal, at_most, at_least_lem, caret, Constraint, any, bound, both, either, depth}
+use Rattle.constraint.specs.Meaning.{Bound, equal, at_most, no_less, caret, Constraint, any, bound, both, either, depth}
 use Rattle.constraint.specs.Numeral.{value, Numeral}
 use Rattle.constraint.specs.Spelling.{sign, Bounded, Paired, Spells, Readable}
 use Rattle.constraint.proofs.Numerals.{numeral_or_not}
@@ -106,18 +106,18 @@ bound_or_not o l = or_not_by put cut (opened_or_not (sign o) Numbers (numbers, (
 
 -- what holds or not of each bound does so of some bound
 some_bound_or_not : {A : Bound → Type 0} → ((o : Bound) → Dec (A o)) → Dec ((o : Bound) × A o)
-some_bound_or_not {A} d = or_not_by put (λ p. of p.0 p.1) (either_or_not (d equal) (either_or_not (d at_most) (either_or_not (d at_least_lem) (d caret))))
+some_bound_or_not {A} d = or_not_by put (λ p. of p.0 p.1) (either_or_not (d equal) (either_or_not (d at_most) (either_or_not (d no_less) (d caret))))
   where
-    put : A equal ⊎ (A at_most ⊎ (A at_least_lem ⊎ A caret)) → (o : Bound) × A o
+    put : A equal ⊎ (A at_most ⊎ (A no_less ⊎ A caret)) → (o : Bound) × A o
     put (inl a) = (equal, a)
     put (inr (inl a)) = (at_most, a)
-    put (inr (inr (inl a))) = (at_least_lem, a)
+    put (inr (inr (inl a))) = (no_less, a)
     put (inr (inr (inr a))) = (caret, a)
 
-    of : (o : Bound) → A o → A equal ⊎ (A at_most ⊎ (A at_least_lem ⊎ A caret))
+    of : (o : Bound) → A o → A equal ⊎ (A at_most ⊎ (A no_less ⊎ A caret))
     of equal a = inl a
     of at_most a = inr (inl a)
-    of at_least_lem a = inr (inr (inl a))
+    of no_less a = inr (inr (inl a))
     of caret a = inr (inr (inr a))
 
 -- the part spells some constraint of depth at most k

@@ -5,19 +5,18 @@ use Prim.Native.Nat.{ℕ, ◌+◌, ◌-◌, ◌≤◌}
 use native.Mathlib.Nat.{add_comm}
 use native.Mathlib.Omega.{arith}
 use lib.Bits.{bit_and, bit_or}
-use lib.ListN.{length, drop, take-append-drop}
+use lib.ListN.{drop, take-append-drop}
+use Rattle.std.specs.Prelude.{Option, None, Some}
 use Rattle.basis.specs.Bytes.{bytes}
 use Rattle.basis.proofs.Split.{Cut}
 use Rattle.constraint.specs.Meaning.{Constraint, any, bound, both, either, depth}
-use Rattle.constraint.specs.declared.reader.Parsed.{Parsed}
-use Rattle.constraint.specs.Range.{AllBelow}
-use Rattle.constraint.specs.Reader.{Begins, Never, Is, IsBound, Shallow, Parses, Coupled}
+use Rattle.constraint.specs.declared.Spelled.{Spelled}
+use Rattle.constraint.specs.Reader.{Begins, Never, Is, IsBound, Shallow, Parses, Coupled, Found, FoundPair}
 use Rattle.constraint.specs.Selection.{Picks}
 use Rattle.constraint.specs.Spelling.{Paired, Spells}
-use Rattle.constraint.proofs.Answers.{FoundPair}
 use Rattle.constraint.proofs.Beginnings.{begins_as, begins_then, never_as, never_first, never_then, word_fixes}
 use Rattle.constraint.proofs.Decided.{depth_above_zero}
-use Rattle.constraint.proofs.Picked.{picks_any, picks_both, picks_either}
+use Rattle.constraint.proofs.Picked.{picks_both, picks_either}
 use Rattle.constraint.proofs.Unique.{Form, joined, chosen, form, told, told_form}
 
 -- the two ways in which a pair joins its sides
@@ -110,22 +109,21 @@ module _ {text : List ℕ} where
   nothing_spelled star and or none (either c d) = never_as (halves_of (bytes "or") c d) (never_first or)
 
 -- no constraint has depth 0
-pub parses_none : {text keys : List ℕ} (left : ℕ) → left ≡ 0 → Parses (Shallow left) text keys Parsed.Stopped
-parses_none left e = Parses.stopped (λ c h. absurd (depth_above_zero c (rw e at h))) refl
-
--- `*` was read
-pub parses_any : {text keys : List ℕ} {set : ℕ} (left : ℕ) → ¬ (left ≡ 0) → Begins (Is (bytes "*")) text 1 → AllBelow (length keys) set
-    → Parses (Shallow left) text keys (Parsed.Read set 1)
-parses_any {keys = keys} left some b s = Parses.read any (omega arith) b (picks_any keys s) refl
+pub parses_none : {text : List ℕ} (left : ℕ) → left ≡ 0 → (c : Constraint) → Shallow left c → Never (Spells c) text
+parses_none left e c h = absurd (depth_above_zero c (rw e at h))
 
 -- a pair was read, or only opened
 pub parses_pair : (j : Join) {text keys : List ℕ} {one other u w : ℕ} (left : ℕ) → ¬ (left ≡ 0) → Begins (Is (opening_of j)) text u
-    → FoundPair (left - 1) (drop u text) keys one other w → Parses (Shallow left) text keys (Parsed.Read (set_joined j one other) (w + u))
+    → FoundPair (left - 1) (drop u text) keys one other w → Found (Shallow left) text keys (set_joined j one other) (w + u)
 parses_pair j {keys = keys} {one = one} {other = other} left some p f =
     let c = f.one in
     let d = f.other in
-    Parses.read (pair_of j c d) (shallow j c d f.one_shallow f.other_shallow) (pair_spelled j c d p f.spelled)
-    (picks j c d f.one_picked f.other_picked) refl
+    record {
+      what = pair_of j c d;
+      meant = shallow j c d f.one_shallow f.other_shallow;
+      spelled = pair_spelled j c d p f.spelled;
+      picked = picks j c d f.one_picked f.other_picked;
+    }
   where
     shallow : (j : Join) (c d : Constraint) → depth c ≤ left - 1 → depth d ≤ left - 1 → depth (pair_of j c d) ≤ left
     shallow meet c d h l = omega arith
@@ -135,18 +133,20 @@ parses_pair j {keys = keys} {one = one} {other = other} left some p f =
     picks meet c d p q = picks_both keys c d one other p q
     picks join c d p q = picks_either keys c d one other p q
 
-pub parses_no_pair : (j : Join) {text keys : List ℕ} {u : ℕ} (left : ℕ) → ¬ (left ≡ 0) → Begins (Is (opening_of j)) text u
-    → ((c d : Constraint) → depth c ≤ left - 1 → depth d ≤ left - 1 → Never (Coupled c d) (drop u text)) → Parses (Shallow left) text keys Parsed.Stopped
-parses_no_pair j left some p none = Parses.stopped (λ c h. pair_stopped_at j (left - 1) p none c (omega arith)) refl
+pub parses_no_pair : (j : Join) {text : List ℕ} {u : ℕ} (left : ℕ) → ¬ (left ≡ 0) → Begins (Is (opening_of j)) text u
+    → ((c d : Constraint) → depth c ≤ left - 1 → depth d ≤ left - 1 → Never (Coupled c d) (drop u text)) → (c : Constraint) → Shallow left c
+    → Never (Spells c) text
+parses_no_pair j left some p none c h = pair_stopped_at j (left - 1) p none c (omega arith)
 
 -- a bound was read, or nothing
-pub parses_bound : {text keys : List ℕ} {r : Parsed} (left : ℕ) → ¬ (left ≡ 0) → Never (Is (bytes "*")) text → Never (Is (opening_of meet)) text
+pub parses_bound : {text : List ℕ} (keys : List ℕ) (r : Option (Spelled ℕ)) (left : ℕ) → ¬ (left ≡ 0) → Never (Is (bytes "*")) text → Never (Is (opening_of meet)) text
     → Never (Is (opening_of join)) text → Parses IsBound text keys r → Parses (Shallow left) text keys r
-parses_bound left some star and or (Parses.read c m b p e) = Parses.read c (bound_depth c m) b p e
+parses_bound keys None left some star and or none = λ c h. nothing_spelled star and or none c
+parses_bound keys (Some p) left some star and or f =
+    record { what = f.what; meant = bound_depth f.what f.meant; spelled = f.spelled; picked = f.picked }
   where
     bound_depth : (c : Constraint) → IsBound c → depth c ≤ left
     bound_depth any m = absurd m
     bound_depth (bound o b) m = omega arith
     bound_depth (both c d) m = absurd m
     bound_depth (either c d) m = absurd m
-parses_bound left some star and or (Parses.stopped none e) = Parses.stopped (λ c h. nothing_spelled star and or none c) e

@@ -1,5 +1,4 @@
 -- The laws of constraints: that a part is read as at most one, and what the readers of its parts rest on, from bytes and numbers to pairs.
-pub mod Answers
 pub mod Beginnings
 pub mod Bounded
 pub mod Decided
@@ -15,3 +14,4 @@ pub mod Selecting
 pub mod Tests
 pub mod Texts
 pub mod Unique
+pub mod Words

@@ -2,6 +2,7 @@
 use mathlib.Core.Path.{◌≡◌, refl, sym, ap, ◌∙◌}
 use mathlib.Core.List.{List, [], ◌∷◌, ◌++◌}
 use mathlib.Core.Logic.{◌⊎◌, inl, inr}
+use Rattle.std.specs.Prelude.{Option, None, Some, MatchOption}
 use Prim.Native.Nat.{ℕ, zero, suc, ◌+◌, ◌*◌, ◌-◌, ◌≤◌, ◌<◌}
 use native.Mathlib.Nat.{le_refl, not-suc-le-zero}
 use native.Mathlib.Numerals.{add-one}
@@ -12,9 +13,7 @@ use lib.Seq.{take-suc, take-add, length-take-le, get_or-take}
 use Rattle.basis.specs.Bytes.{All}
 use Rattle.basis.proofs.Runs.{all_append}
 use Rattle.constraint.specs.Numeral.{Digit, value_from, value, Numeral}
-use Rattle.constraint.specs.declared.number.Growth.{Growth}
-use Rattle.constraint.specs.declared.number.Growth.TheVariants.{On, End}
-use Rattle.constraint.specs.Reader.{Over, Grows, on, end, Longest}
+use Rattle.constraint.specs.Reader.{so_far, Over, Grown, Longest, Unnumbered}
 use Rattle.constraint.proofs.Texts.{all_at}
 
 -- digits after digits go on from the number before them
@@ -38,15 +37,19 @@ value_longer text u k h =
 value_more : (text : List ℕ) (u : ℕ) → u < length text → value (take (u + 1) text) ≡ value (take u text) * 10 + (get_or text u 0 - 48)
 value_more text u h = rw (add-one, take-suc text u 0 h) (value_append 0 (take u text) (get_or text u 0 ∷ []))
 
--- u bytes of a text write the number n, or there are none yet
-pub record Begun (text : List ℕ) (n u : ℕ) : Type 0 where
+-- the first u bytes of a text write the number, or there is none yet
+pub record Begun (text : List ℕ) (number : Option ℕ) (u : ℕ) : Type 0 where
   pub within : u ≤ length text
-  pub worth : value (take u text) ≡ n
-  pub numeral : 0 < u → Numeral (take u text) n
+  pub written : MatchOption number (u ≡ 0) (λ n. Numeral (take u text) n)
 
--- before the first byte
-pub begun_none : (text : List ℕ) → Begun text 0 0
-begun_none text = record { within = omega arith; worth = refl; numeral = λ h. absurd (not-suc-le-zero h) }
+-- what those bytes are worth
+begun_worth : {text : List ℕ} {u : ℕ} (number : Option ℕ) → Begun text number u → value (take u text) ≡ so_far number
+begun_worth None g = rw g.written refl
+begun_worth (Some n) g = g.written.worth
+
+-- a number is written in one byte or more
+some_bytes : (text : List ℕ) (u : ℕ) {n : ℕ} → u ≤ length text → Numeral (take u text) n → 0 < u
+some_bytes text u h r = omega (arith, r.filled, length-take-le u text h)
 
 -- a number of two bytes or more does not begin with 0
 not_zero_first : (text : List ℕ) (k m : ℕ) → 1 < k → k ≤ length text → Numeral (take k text) m → ¬ (get_or text 0 0 ≡ 48)
@@ -70,9 +73,9 @@ above_zero_first (b ∷ text) (suc zero) n h l r above z = above (omega (arith, 
 above_zero_first (b ∷ text) (suc (suc u)) n h l r above z = not_zero_first (b ∷ text) (suc (suc u)) n (omega arith) l r z
 
 -- a digit that may follow makes the number longer
-begun_more : (text : List ℕ) (n u : ℕ) → Begun text n u → u < length text → Digit (get_or text u 0) → (n ≡ 0 → u ≡ 0)
-    → n * 10 + (get_or text u 0 - 48) ≤ 65535 → Begun text (n * 10 + (get_or text u 0 - 48)) (u + 1)
-begun_more text n u g h d plain small = record { within = omega arith; worth = worth; numeral = λ p. numeral (dec_le u 0) }
+pub begun_more : {text : List ℕ} {number : Option ℕ} {u n : ℕ} → Begun text number u → u < length text → Grown number (get_or text u 0) n
+    → Begun text (Some n) (u + 1)
+begun_more {text} {number} {u} {n} g h d = record { within = omega arith; written = numeral number g d }
   where
     b : ℕ
     b = get_or text u 0
@@ -80,46 +83,48 @@ begun_more text n u g h d plain small = record { within = omega arith; worth = w
     size : length (take (u + 1) text) ≡ u + 1
     size = length-take-le (u + 1) text (omega arith)
 
-    worth : value (take (u + 1) text) ≡ n * 10 + (b - 48)
-    worth = value_more text u h ∙ ap (λ (m : ℕ). m * 10 + (b - 48)) g.worth
-
     digits : All Digit (take u text) → All Digit (take (u + 1) text)
-    digits before = rw (add-one, take-suc text u 0 h) (all_append Digit (take u text) (b ∷ []) before (d, tt))
+    digits before = rw (add-one, take-suc text u 0 h) (all_append Digit (take u text) (b ∷ []) before (d.digit, tt))
 
-    numeral : Dec (u ≤ 0) → Numeral (take (u + 1) text) (n * 10 + (b - 48))
-    numeral (yes z) =
-        let e : u ≡ 0 = omega arith in
-        record { digits = digits (rw e tt); filled = omega (arith, size); plain = inl (omega (arith, size)); worth = worth; small = small }
-    numeral (no f) =
-        let r : Numeral (take u text) n = g.numeral (omega arith) in
-        let first : ¬ (get_or text 0 0 ≡ 48) = above_zero_first text u n (omega arith) g.within r (λ z. f (omega (arith, plain z))) in
+    numeral : (number : Option ℕ) → Begun text number u → Grown number b n → Numeral (take (u + 1) text) n
+    numeral None g d =
+        let e : u ≡ 0 = g.written in
+        let worth : value (take (u + 1) text) ≡ n = omega (arith, value_more text u h, begun_worth None g, d.worth) in
+        record { digits = digits (rw e tt); filled = omega (arith, size); plain = inl (omega (arith, size)); worth = worth; small = d.small }
+    numeral (Some m) g d =
+        let r : Numeral (take u text) m = g.written in
+        let first : ¬ (get_or text 0 0 ≡ 48) = above_zero_first text u m (some_bytes text u g.within r) g.within r (λ z. d.plain (ap Some z)) in
         let still : ¬ (get_or (take (u + 1) text) 0 0 ≡ 48) = λ e. first (sym (get_or-take (u + 1) text 0 0 (omega arith)) ∙ e) in
-        record { digits = digits r.digits; filled = omega (arith, size); plain = inr still; worth = worth; small = small }
+        let worth : value (take (u + 1) text) ≡ n = omega (arith, value_more text u h, r.worth, d.worth) in
+        record { digits = digits r.digits; filled = omega (arith, size); plain = inr still; worth = worth; small = d.small }
 
--- where no digit more may follow, the number is the longest
-longest_over : (text : List ℕ) (n u : ℕ) → Begun text n u → u < length text → Over n u (get_or text u 0) → Longest text n u
-longest_over text n u g h over = record { within = g.within; worth = g.worth; numeral = g.numeral; longest = λ k m l r. least k m l r (dec_le k u) }
+-- the number is the longest that the text begins with, or there is none
+abbrev pub Ends : List ℕ → Option ℕ → ℕ → Type 0
+Ends text number u = MatchOption number (Unnumbered text) (λ n. Longest text n u)
+
+-- a number is the longest if no longer one begins the text
+ends_by : {text : List ℕ} {u : ℕ} (number : Option ℕ) → Begun text number u
+    → ((k m : ℕ) → k ≤ length text → Numeral (take k text) m → k ≤ u) → Ends text number u
+ends_by {text} {u} None g least = λ k m l r. omega (arith, g.written, least k m l r, some_bytes text k l r)
+ends_by (Some n) g least = record { within = g.within; numeral = g.written; longest = least }
+
+-- that is so where no digit more may follow
+pub longest_over : {text : List ℕ} {number : Option ℕ} {u : ℕ} → Begun text number u → u < length text → Over number (get_or text u 0) → Ends text number u
+longest_over {text} {number} {u} g h over = ends_by number g (λ k m l r. least k m l r (dec_le k u))
   where
-    never : (k m : ℕ) → u < k → k ≤ length text → Numeral (take k text) m → Over n u (get_or text u 0) → ⊥
-    never k m p l r (inl nd) = nd (all_at Digit text k u r.digits p h)
-    never k m p l r (inr (inl z)) =
-        not_zero_first text k m (omega arith) l r (zero_first text u z.1 g.within (g.numeral z.1).digits (g.worth ∙ z.0))
-    never k m p l r (inr (inr big)) = omega (arith, value_longer text (u + 1) k (omega arith), value_more text u h, g.worth, r.worth, r.small)
+    never : (k m : ℕ) → u < k → k ≤ length text → Numeral (take k text) m → Over number (get_or text u 0) → ⊥
+    never k m p l r (inl no_digit) = no_digit (all_at Digit text k u r.digits p h)
+    never k m p l r (inr (inl none)) =
+        let begun : Begun text (Some 0) u = rw none at g in
+        let above : 0 < u = some_bytes text u begun.within begun.written in
+        not_zero_first text k m (omega arith) l r (zero_first text u above begun.within begun.written.digits begun.written.worth)
+    never k m p l r (inr (inr big)) =
+        omega (arith, value_longer text (u + 1) k (omega arith), value_more text u h, begun_worth number g, r.worth, r.small)
 
     least : (k m : ℕ) → k ≤ length text → Numeral (take k text) m → Dec (k ≤ u) → k ≤ u
     least k m l r (yes p) = p
     least k m l r (no p) = absurd (never k m (omega arith) l r over)
 
--- and so it is at the text's end
-pub longest_all : (text : List ℕ) (n u : ℕ) → Begun text n u → length text ≤ u → Longest text n u
-longest_all text n u g h = record { within = g.within; worth = g.worth; numeral = g.numeral; longest = λ k m l r. omega arith }
-
--- a byte that goes on makes the number longer
-pub begun_on : {text : List ℕ} {n u : ℕ} {r : Growth} (m : ℕ) → Begun text n u → u < length text → Grows n u (get_or text u 0) r → r ≡ On m → Begun text m (u + 1)
-begun_on {text} {n} {u} m g h (on d plain small e) f = let same : m ≡ n * 10 + (get_or text u 0 - 48) = cc in rw same (begun_more text n u g h d plain small)
-begun_on {text} {n} {u} m g h (end over e) f = let z : ◌≡◌ {A = ℕ} 0 1 = cc in absurd (omega arith)
-
--- a byte that cannot stand there leaves the longest
-pub longest_end : {text : List ℕ} {n u : ℕ} {r : Growth} → Begun text n u → u < length text → Grows n u (get_or text u 0) r → r ≡ End → Longest text n u
-longest_end {text} {n} {u} g h (on d plain small e) f = let z : ◌≡◌ {A = ℕ} 0 1 = cc in absurd (omega arith)
-longest_end {text} {n} {u} g h (end over e) f = longest_over text n u g h over
+-- and at the text's end
+pub longest_all : {text : List ℕ} {number : Option ℕ} {u : ℕ} → Begun text number u → length text ≤ u → Ends text number u
+longest_all {number = number} g h = ends_by number g (λ k m l r. omega arith)

@@ -1,18 +1,16 @@
 -- Pairs, part by part: the word that opens one, then its two sides and what stands between and after them.
 use mathlib.Core.Path.{◌≡◌, refl, sym, ap, ◌∙◌}
 use mathlib.Core.List.{List, ◌++◌}
-use Prim.Native.Nat.{ℕ, ◌+◌}
+use Prim.Native.Nat.{ℕ, ◌+◌, ◌≤◌}
 use native.Mathlib.Nat.{add_assoc}
 use native.Mathlib.Omega.{arith}
 use lib.ListN.{drop}
 use lib.Seq.{drop-drop}
 use Rattle.basis.specs.Bytes.{bytes}
 use Rattle.basis.proofs.Split.{Cut}
-use Rattle.constraint.specs.Meaning.{Constraint}
-use Rattle.constraint.specs.declared.reader.Sides.{Sides}
-use Rattle.constraint.specs.Reader.{Begins, Never, Is, Shallow, Coupled, ReadsPair}
+use Rattle.constraint.specs.Meaning.{Constraint, depth}
+use Rattle.constraint.specs.Reader.{Begins, Never, Is, Shallow, Coupled, Found, FoundPair}
 use Rattle.constraint.specs.Spelling.{Spells}
-use Rattle.constraint.proofs.Answers.{Found}
 use Rattle.constraint.proofs.Beginnings.{Fixes, begins_as, begins_then, begins_third, never_as, never_first, never_then, never_third, word_fixes}
 use Rattle.constraint.proofs.Unique.{spelled_prefix}
 
@@ -74,29 +72,37 @@ module _ {text : List ℕ} (c d : Constraint) {u w : ℕ} (one : Begins (Spells 
       never_as (parts_of a b)
       (never_then (spells_fixes c a) one (never_third (word_fixes (bytes " ")) (spells_fixes d b) gap after_one (rw after_other none)))
 
--- the answer where both sides were read
+-- both sides were read
 pub reads_both : {text keys : List ℕ} {k one other u w : ℕ} → Found (Shallow k) text keys one u → Begins (Is (bytes " ")) (drop u text) 1
     → Found (Shallow k) (drop (u + 1) text) keys other w → Begins (Is (bytes ")")) (drop (u + 1 + w) text) 1
-    → ReadsPair k text keys (Sides.Read one other (u + 1 + w + 1))
+    → FoundPair k text keys one other (u + 1 + w + 1)
 reads_both f gap g close =
-    let spelled = pair_read_all f.what g.what f.spelled gap g.spelled close in
-    ReadsPair.read f.what g.what f.meant g.meant spelled f.picked g.picked refl
+    record {
+      one = f.what;
+      other = g.what;
+      one_shallow = f.meant;
+      other_shallow = g.meant;
+      spelled = pair_read_all f.what g.what f.spelled gap g.spelled close;
+      one_picked = f.picked;
+      other_picked = g.picked;
+    }
 
--- where the first side was not, or the space after it, or the second side, or the bracket
-pub reads_no_one : {text keys : List ℕ} {k : ℕ} → ((c : Constraint) → Shallow k c → Never (Spells c) text) → ReadsPair k text keys Sides.Stopped
-reads_no_one none = ReadsPair.stopped (λ a b h l. never_as (parts_of a b) (never_first (none a h))) refl
+-- a text begins with no pair of so much depth
+abbrev Unpaired : ℕ → List ℕ → Type 0
+Unpaired k text = (a b : Constraint) → depth a ≤ k → depth b ≤ k → Never (Coupled a b) text
 
-pub reads_no_gap : {text keys : List ℕ} {k one u : ℕ} → Found (Shallow k) text keys one u → Never (Is (bytes " ")) (drop u text)
-    → ReadsPair k text keys Sides.Stopped
-reads_no_gap f none = ReadsPair.stopped (λ a b h l. never_as (parts_of a b) (never_then (spells_fixes f.what a) f.spelled (never_first none))) refl
+-- the first side was not read, or the space after it, or the second side, or the bracket
+pub reads_no_one : {text : List ℕ} {k : ℕ} → ((c : Constraint) → Shallow k c → Never (Spells c) text) → Unpaired k text
+reads_no_one none a b h l = never_as (parts_of a b) (never_first (none a h))
+
+pub reads_no_gap : {text keys : List ℕ} {k one u : ℕ} → Found (Shallow k) text keys one u → Never (Is (bytes " ")) (drop u text) → Unpaired k text
+reads_no_gap f none a b h l = never_as (parts_of a b) (never_then (spells_fixes f.what a) f.spelled (never_first none))
 
 pub reads_no_other : {text keys : List ℕ} {k one u : ℕ} → Found (Shallow k) text keys one u → Begins (Is (bytes " ")) (drop u text) 1
-    → ((d : Constraint) → Shallow k d → Never (Spells d) (drop (u + 1) text)) → ReadsPair k text keys Sides.Stopped
-reads_no_other f gap none =
-    ReadsPair.stopped
-    (λ a b h l. never_as (parts_of a b) (never_third (spells_fixes f.what a) (word_fixes (bytes " ")) f.spelled gap (never_first (none b l))))
-    refl
+    → ((d : Constraint) → Shallow k d → Never (Spells d) (drop (u + 1) text)) → Unpaired k text
+reads_no_other f gap none a b h l =
+    never_as (parts_of a b) (never_third (spells_fixes f.what a) (word_fixes (bytes " ")) f.spelled gap (never_first (none b l)))
 
 pub reads_no_close : {text keys : List ℕ} {k one other u w : ℕ} → Found (Shallow k) text keys one u → Begins (Is (bytes " ")) (drop u text) 1
-    → Found (Shallow k) (drop (u + 1) text) keys other w → Never (Is (bytes ")")) (drop (u + 1 + w) text) → ReadsPair k text keys Sides.Stopped
-reads_no_close f gap g none = ReadsPair.stopped (λ a b h l. pair_no_close f.what g.what f.spelled gap g.spelled none a b) refl
+    → Found (Shallow k) (drop (u + 1) text) keys other w → Never (Is (bytes ")")) (drop (u + 1 + w) text) → Unpaired k text
+reads_no_close f gap g none a b h l = pair_no_close f.what g.what f.spelled gap g.spelled none a b

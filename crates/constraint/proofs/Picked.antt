@@ -2,20 +2,17 @@
 use mathlib.Core.Path.{◌≡◌}
 use mathlib.Core.List.{List}
 use mathlib.Core.Logic.{◌⊎◌, ◌↔◌, inl, inr}
-use Prim.Native.Nat.{ℕ, ◌+◌, ◌-◌, ◌^◌, ◌<◌}
-use native.Mathlib.Nat.{not-suc-le-zero}
-use native.Mathlib.Decide.{ℕ_discrete}
+use Prim.Native.Nat.{ℕ, ◌-◌, ◌^◌, ◌<◌}
 use native.Mathlib.Omega.{arith}
 use lib.Bits.{bit_and, bit_or}
 use lib.ListN.{length, get_or}
 use lib.Pow.{pow_pos}
 use Rattle.bitset.specs.Bits.{Member}
-use Rattle.bitset.specs.Changes.{With}
 use Rattle.bitset.proofs.Sets.{none_in_empty}
 use Rattle.bitset.proofs.Made.{meet_members, join_members, rest_members}
 use Rattle.constraint.specs.declared.Version.{Version}
 use Rattle.constraint.specs.Meaning.{Bound, Constraint, any, bound, both, either, Satisfies}
-use Rattle.constraint.specs.Range.{Between, Spans, Marks, Chosen, AllBelow}
+use Rattle.constraint.specs.Range.{Between, Spans, Chosen, AllBelow}
 use Rattle.constraint.specs.Selection.{unkey, Picks}
 
 -- the numbers below n are the members of 2 ^ n - 1
@@ -28,49 +25,9 @@ below_all n = record { members = members }
         let rest = rest_members n 0 e (pow_pos n) in
         (λ m. (rest.0 (rw whole m)).0, λ l. rw whole at (rest.1 (l, none_in_empty e)))
 
--- a key outside the range changes nothing
-pub marks_none : (set e k low high : ℕ) → ¬ Between low high k → Marks set e k low high set
-marks_none set e k low high out = record { members = λ d. (λ m. inr m, from d) }
-  where
-    from : (d : ℕ) → ((d ≡ e) × Between low high k) ⊎ Member set d → Member set d
-    from d (inl h) = absurd (out h.1)
-    from d (inr m) = m
-
--- a key in the range is one member more
-pub marks_with : (set e k low high r : ℕ) → e < 64 → Between low high k → With set e r → Marks set e k low high r
-marks_with set e k low high r l inside w = record { members = λ d. (λ m. into d ((w.members l d).0 m), λ m. (w.members l d).1 (from d m)) }
-  where
-    into : (d : ℕ) → (d ≡ e) ⊎ Member set d → ((d ≡ e) × Between low high k) ⊎ Member set d
-    into d (inl h) = inl (h, inside)
-    into d (inr m) = inr m
-
-    from : (d : ℕ) → ((d ≡ e) × Between low high k) ⊎ Member set d → (d ≡ e) ⊎ Member set d
-    from d (inl h) = inl h.0
-    from d (inr m) = inr m
-
 -- the set of those of the first i keys that lie between low and high
 pub record ChosenOf (keys : List ℕ) (low high i set : ℕ) : Type 0 where
   pub members : (e : ℕ) → Member set e ↔ ((e < i) × Between low high (get_or keys e 0))
-
-pub chosen_none : (keys : List ℕ) (low high : ℕ) → ChosenOf keys low high 0 0
-chosen_none keys low high = record { members = λ e. (λ m. absurd (none_in_empty e m), λ p. absurd (not-suc-le-zero p.0)) }
-
-pub chosen_more : {keys : List ℕ} {low high i set r : ℕ} → ChosenOf keys low high i set → Marks set i (get_or keys i 0) low high r
-    → ChosenOf keys low high (i + 1) r
-chosen_more {keys} {low} {high} {i} {set} c m =
-    record { members = λ e. (λ h. into e ((m.members e).0 h), λ p. (m.members e).1 (from e p (ℕ_discrete e i))) }
-  where
-    into : (e : ℕ) → ((e ≡ i) × Between low high (get_or keys i 0)) ⊎ Member set e → (e < i + 1) × Between low high (get_or keys e 0)
-    into e (inl h) = (omega arith, rw h.0 h.1)
-    into e (inr h) = let p = (c.members e).0 h in (omega arith, p.1)
-
-    from : (e : ℕ) → (e < i + 1) × Between low high (get_or keys e 0) → Dec (e ≡ i) → ((e ≡ i) × Between low high (get_or keys i 0)) ⊎ Member set e
-    from e p (yes h) = inl (h, rw h at p.1)
-    from e p (no f) = inr ((c.members e).1 (omega arith, p.1))
-
--- after the last key it is the whole set
-pub chosen_all : {keys : List ℕ} {low high i set : ℕ} → i ≡ length keys → ChosenOf keys low high i set → Chosen keys low high set
-chosen_all h c = record { members = rw h at c.members }
 
 -- the keys in a bound's range are those that satisfy the bound
 pub picks_bound : {keys : List ℕ} {o : Bound} {b : Version} {low high set : ℕ} → ((e : ℕ) → get_or keys e 0 < 2 ^ 64) → Spans o b low high

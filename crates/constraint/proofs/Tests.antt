@@ -7,7 +7,7 @@ use lib.Dec.{eqb, ltb, leb}
 use Rattle.basis.specs.Tests.{Decides}
 use Rattle.basis.proofs.Decide.{decides_by, decides_unit, decides_and, decides_or, decides_if, decides_eq, decides_lt, decides_le}
 use Rattle.constraint.specs.declared.Version.{Version}
-use Rattle.constraint.specs.Meaning.{Bound, equal, at_most, at_least_lem, caret, Constraint, any, bound, both, either, Satisfies, Same, Below, by_major, by_minor, by_patch, AtMost, Caret, Meets}
+use Rattle.constraint.specs.Meaning.{Bound, equal, at_most, no_less, caret, Constraint, any, bound, both, either, Satisfies, Same, Below, by_major, by_minor, by_patch, AtMost, Caret, Meets}
 
 -- v and w are the same version
 abbrev pub is_same : Version → Version → Bool
@@ -39,7 +39,7 @@ is_caret b v =
 abbrev pub meets : Bound → Version → Version → Bool
 meets equal b v = is_same v b
 meets at_most b v = is_at_most v b
-meets at_least_lem b v = is_at_most b v
+meets no_less b v = is_at_most b v
 meets caret b v = is_caret b v
 
 -- v satisfies a constraint
@@ -99,7 +99,7 @@ caret_decides b v =
 meets_decides : (o : Bound) (b v : Version) → Decides (meets o b v) (Meets o b v)
 meets_decides equal b v = same_decides v b
 meets_decides at_most b v = at_most_decides v b
-meets_decides at_least_lem b v = at_most_decides b v
+meets_decides no_less b v = at_most_decides b v
 meets_decides caret b v = caret_decides b v
 
 pub satisfied_decides : (v : Version) (c : Constraint) → Decides (satisfied v c) (Satisfies v c)

@@ -10,7 +10,7 @@ use lib.ListN.{get_or}
 use Rattle.basis.specs.Bytes.{bytes}
 use Rattle.basis.proofs.Runs.{run_ends}
 use Rattle.constraint.specs.declared.Version.{Version}
-use Rattle.constraint.specs.Meaning.{Bound, equal, at_most, at_least_lem, caret, Constraint, any, bound, both, either}
+use Rattle.constraint.specs.Meaning.{Bound, equal, at_most, no_less, caret, Constraint, any, bound, both, either}
 use Rattle.constraint.specs.Numeral.{Digit, Numeral}
 use Rattle.constraint.specs.Spelling.{sign, Bounded, Paired, Spells, ReadAs}
 use Rattle.constraint.proofs.Numerals.{one_number}
@@ -32,13 +32,13 @@ told bs =
     cond (eqb (get_or bs 0 0) 42) anything
     (cond (eqb (get_or bs 1 0) 97) joined
     (cond (eqb (get_or bs 1 0) 111) chosen
-    (bounded (cond (eqb (get_or bs 1 0) 61) equal (cond (eqb (get_or bs 1 0) 60) at_most (cond (eqb (get_or bs 1 0) 62) at_least_lem caret))))))
+    (bounded (cond (eqb (get_or bs 1 0) 61) equal (cond (eqb (get_or bs 1 0) 60) at_most (cond (eqb (get_or bs 1 0) 62) no_less caret))))))
 
 told_sign : (o : Bound) (r s : List ℕ) → told (40 ∷ (sign o ++ r ++ s)) ≡ bounded o
 unfolding told
 told_sign equal r s = refl
 told_sign at_most r s = refl
-told_sign at_least_lem r s = refl
+told_sign no_less r s = refl
 told_sign caret r s = refl
 
 pub told_form : (c : Constraint) (x s : List ℕ) → Spells c x → told (x ++ s) ≡ form c

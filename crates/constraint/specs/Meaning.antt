@@ -1,10 +1,10 @@
--- The seven forms of a constraint and what each asks of a version (document 01, "Constraints"; document 001, figure 3).
+-- The seven forms of a constraint and what each asks of a version.
 use Rattle.std.specs.Prelude.{◌≡◌, ◌⊎◌, ℕ, suc, max, ◌≤◌, ◌<◌}
 use Rattle.constraint.specs.declared.Version.{Version}
 
 -- the four bounds: =, <=, >=, ^
 pub data Bound : Type 0 where
-  equal at_most at_least_lem caret : Bound
+  equal at_most no_less caret : Bound
 
 -- `*`, a bound with its version, `and` and `or` of two constraints
 pub data Constraint : Type 0 where
@@ -42,7 +42,7 @@ pub record Caret (b v : Version) : Type 0 where
 abbrev pub Meets : Bound → Version → Version → Type 0
 Meets equal b v = Same v b
 Meets at_most b v = AtMost v b
-Meets at_least_lem b v = AtMost b v
+Meets no_less b v = AtMost b v
 Meets caret b v = Caret b v
 
 -- v satisfies a constraint

@@ -3,14 +3,14 @@ use Rattle.std.specs.Prelude.{◌≡◌, List, ◌⊎◌, ◌↔◌, ℕ, ◌^�
 use Rattle.bitset.specs.Bits.{Member}
 use Rattle.constraint.specs.declared.Version.{Version}
 use Rattle.constraint.specs.declared.range.Sign.{Sign}
-use Rattle.constraint.specs.Meaning.{Bound, equal, at_most, at_least_lem, caret, Caret, Meets}
+use Rattle.constraint.specs.Meaning.{Bound, equal, at_most, no_less, caret, Caret, Meets}
 use Rattle.constraint.specs.Selection.{key, unkey}
 
 -- the bound of a sign
 abbrev pub bound_of : Sign → Bound
 bound_of Sign.Equal = equal
 bound_of Sign.AtMost = at_most
-bound_of Sign.AtLeast = at_least_lem
+bound_of Sign.AtLeast = no_less
 bound_of Sign.Caret = caret
 
 -- k lies between low and high

@@ -1,9 +1,7 @@
 -- One constraint read once for many versions: each version packed into one number, and the set of those that satisfy the constraint.
-use Rattle.std.specs.Prelude.{◌≡◌, List, ◌↔◌, ℕ, ◌+◌, ◌*◌, ◌/◌, ◌%◌, ◌^◌, ◌<◌, length, get_or}
+use Rattle.std.specs.Prelude.{List, ◌↔◌, ℕ, ◌+◌, ◌*◌, ◌/◌, ◌%◌, ◌^◌, ◌<◌, length, get_or, Option, MatchOption}
 use Rattle.bitset.specs.Bits.{Member}
 use Rattle.constraint.specs.declared.Version.{Version}
-use Rattle.constraint.specs.declared.Selection.{Selection}
-use Rattle.constraint.specs.declared.Selection.TheVariants.{Versions, Unread}
 use Rattle.constraint.specs.Meaning.{Constraint, Satisfies}
 use Rattle.constraint.specs.Spelling.{ReadAs, Readable}
 
@@ -19,7 +17,6 @@ unkey k = record { major = k / 2 ^ 32; minor = k / 2 ^ 16 % 2 ^ 16; patch = k % 
 abbrev pub Picks : List ℕ → Constraint → ℕ → Type 0
 Picks keys c set = (e : ℕ) → Member set e ↔ ((e < length keys) × Satisfies (unkey (get_or keys e 0)) c)
 
--- what the reading may answer for a part and packed versions
-pub data Selects (part keys : List ℕ) (a : Selection) : Type 0 where
-  read : {c : Constraint} {set : ℕ} → ReadAs part c → Picks keys c set → a ≡ Versions set → Selects part keys a
-  unread : ¬ Readable part → a ≡ Unread → Selects part keys a
+-- what the reading may answer for a part and packed versions: the set of those that satisfy the constraint, or none where the part is read as no constraint
+abbrev pub Selects : List ℕ → List ℕ → Option ℕ → Type 0
+Selects part keys a = MatchOption a (¬ Readable part) (λ set. (c : Constraint) × ReadAs part c × Picks keys c set)

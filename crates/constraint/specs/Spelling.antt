@@ -1,16 +1,15 @@
--- The bytes that spell a constraint, and the limits within which a constraint is read (document 01, "Constraints"). There is no parser in this: a part spells
--- c if it is c's own spelling.
+-- The bytes that spell a constraint, and the limits within which a constraint is read. There is no parser in this: a part spells c if it is c's own spelling.
 use Rattle.std.specs.Prelude.{◌≡◌, List, ◌++◌, ℕ, ◌≤◌, length}
 use Rattle.basis.specs.Bytes.{bytes}
 use Rattle.constraint.specs.declared.Version.{Version}
-use Rattle.constraint.specs.Meaning.{Bound, equal, at_most, at_least_lem, caret, Constraint, any, bound, both, either, depth}
+use Rattle.constraint.specs.Meaning.{Bound, equal, at_most, no_less, caret, Constraint, any, bound, both, either, depth}
 use Rattle.constraint.specs.Numeral.{Numeral}
 
 -- the sign of a bound
 abbrev pub sign : Bound → List ℕ
 sign equal = bytes "="
 sign at_most = bytes "<="
-sign at_least_lem = bytes ">="
+sign no_less = bytes ">="
 sign caret = bytes "^"
 
 -- a bound: `(`, its sign, three numbers, `)`, and one space between the parts

@@ -2,112 +2,55 @@
 ghost use Rattle.std.specs.Prelude.{◌≤◌, length};
 ghost use Rattle.constraint.specs.Reader.{ReadsOpening, ReadsTriple, IsBound, Parses};
 
-use crate::Version;
 use crate::keys::chosen;
-use crate::number::{Field, ended};
+use crate::number::ended;
 use crate::range::{Sign, span};
-use crate::reader::Parsed;
-use crate::word::agreed;
+use crate::{Spelled, Version};
 
-// The bracket and the sign that open a bound, with the space after them.
-#[derive(Clone, Copy)]
-pub enum Opening {
-    Read { sign: Sign, used: usize },
-    Stopped,
-}
-
-// The three numbers of a version, with the bracket that closes them.
-#[derive(Clone, Copy)]
-pub enum Triple {
-    Read { version: Version, used: usize },
-    Stopped,
-}
-
-// Reads what opens a bound.
-fn signed(rest: &[u8]) -> Opening
+// Reads what opens a bound: the bracket, its sign and a space.
+fn signed(rest: &[u8]) -> Option<Spelled<Sign>>
     ensures { ReadsOpening rest.now result }
 {
-    if agreed(rest, b"(= ") == 3 {
-        return Opening::Read {
-            sign: Sign::Equal,
-            used: 3,
-        };
-    }
-    if agreed(rest, b"(<= ") == 4 {
-        return Opening::Read {
-            sign: Sign::AtMost,
-            used: 4,
-        };
-    }
-    if agreed(rest, b"(>= ") == 4 {
-        return Opening::Read {
-            sign: Sign::AtLeast,
-            used: 4,
-        };
-    }
-    if agreed(rest, b"(^ ") == 3 {
-        return Opening::Read {
-            sign: Sign::Caret,
-            used: 3,
-        };
-    }
-    Opening::Stopped
+    let signs = [Sign::Equal, Sign::AtMost, Sign::AtLeast, Sign::Caret];
+    let value = signs
+        .iter()
+        .copied()
+        .find(|sign| rest.starts_with(sign.opening()))?;
+    Some(Spelled {
+        value,
+        used: value.opening().len(),
+    })
 }
 
-// Reads the three numbers and the bracket.
-fn three(rest: &[u8]) -> Triple
+// Reads the three numbers of a version and the bracket that closes them.
+fn three(rest: &[u8]) -> Option<Spelled<Version>>
     ensures { ReadsTriple rest.now result }
 {
-    let Field::Read {
-        value: major,
-        used: first,
-    } = ended(rest, b' ')
-    else {
-        return Triple::Stopped;
+    let major = ended(rest, b' ')?;
+    let minor = ended(&rest[major.used..], b' ')?;
+    let both = major.used + minor.used;
+    let patch = ended(&rest[both..], b')')?;
+    let value = Version {
+        major: major.value,
+        minor: minor.value,
+        patch: patch.value,
     };
-    let Field::Read {
-        value: minor,
-        used: second,
-    } = ended(&rest[first..], b' ')
-    else {
-        return Triple::Stopped;
-    };
-    let both = first + second;
-    let Field::Read {
-        value: patch,
-        used: third,
-    } = ended(&rest[both..], b')')
-    else {
-        return Triple::Stopped;
-    };
-    Triple::Read {
-        version: Version {
-            major,
-            minor,
-            patch,
-        },
-        used: both + third,
-    }
+    Some(Spelled {
+        value,
+        used: both + patch.used,
+    })
 }
 
 // Reads a bound.
-pub fn bound(rest: &[u8], keys: &[u64]) -> Parsed
+pub fn bound(rest: &[u8], keys: &[u64]) -> Option<Spelled<u64>>
     requires { length keys.now ≤ 64 }
     ensures { Parses IsBound rest.now keys.now result }
 {
-    let Opening::Read { sign, used: opened } = signed(rest) else {
-        return Parsed::Stopped;
-    };
-    let Triple::Read {
-        version,
-        used: closed,
-    } = three(&rest[opened..])
-    else {
-        return Parsed::Stopped;
-    };
-    let set = chosen(keys, span(sign, version));
-    Parsed::Read {
-        set,
-        used: opened + closed,
-    }
+    let sign = signed(rest)?;
+    let version = three(&rest[sign.used..])?;
+    let value = chosen(keys, span(sign.value, version.value));
+    Some(Spelled {
+        value,
+        used: sign.used + version.used,
+    })
 }

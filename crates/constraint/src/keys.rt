@@ -9,10 +9,7 @@ fn marked(set: u64, e: usize, key: u64, range: Range) -> u64
     requires { e < 64 }
     ensures { Marks set e key range.low range.high result }
 {
-    if key < range.low {
-        return set;
-    }
-    if key > range.high {
+    if key < range.low || key > range.high {
         return set;
     }
     bitset::with(set, e as u32)
@@ -23,11 +20,9 @@ pub fn chosen(keys: &[u64], range: Range) -> u64
     requires { length keys.now ≤ 64 }
     ensures { Chosen keys.now range.low range.high result }
 {
-    let mut set: u64 = 0;
-    let mut e = 0;
-    while e < keys.len() {
-        set = marked(set, e, keys[e], range);
-        e += 1;
+    let mut set = 0;
+    for (e, key) in keys.iter().enumerate() {
+        set = marked(set, e, *key, range);
     }
     set
 }
@@ -38,7 +33,7 @@ pub fn all(count: usize) -> u64
     ensures { AllBelow count result }
 {
     if count == 64 {
-        return 18446744073709551615;
+        return u64::MAX;
     }
     (1 << count) - 1
 }

@@ -1,8 +1,8 @@
-// Versions and constraints: a constraint is read against one version, or once for many packed versions (document 01, "Constraints").
+// Versions and constraints: a constraint is read against one version, or once for many packed versions.
 #![tactic(auto)]
 
 use basis::Refusal;
-use reader::{Parsed, constraint};
+use reader::constraint;
 
 mod bound;
 mod keys;
@@ -22,60 +22,43 @@ pub struct Version {
     pub patch: u16,
 }
 
-// What reading one constraint against one version answers.
+// What a reader has read of the beginning of a text, and how many bytes of the text spell it.
 #[derive(Clone, Copy)]
-pub enum Reading {
-    // The version fits.
-    Fits,
-    // It does not.
-    Misfits,
-    // The part spells no constraint within the limits: 4.
-    Refused(Refusal),
-}
-
-// What reading one constraint against many versions answers.
-#[derive(Clone, Copy)]
-pub enum Selection {
-    // The set of those that satisfy it: bit e for version e.
-    Versions(u64),
-    // The part spells no constraint within the limits.
-    Unread,
+pub struct Spelled<T> {
+    pub value: T,
+    pub used: usize,
 }
 
 // A version as one number, by which versions are compared.
 pub fn pack(version: Version) -> u64
     ensures { result ≡ key version }
 {
-    ((version.major as u64) * 65536 + (version.minor as u64)) * 65536 + (version.patch as u64)
+    (u64::from(version.major) * 65536 + u64::from(version.minor)) * 65536 + u64::from(version.patch)
 }
 
-// Reads a part as one constraint and answers which of many packed versions satisfy it. A set has room for 64.
-pub fn select(part: &[u8], keys: &[u64]) -> Selection
+// Reads a part as one constraint and answers which of many packed versions satisfy it: bit e for version e. A set has room for 64. None where the part
+// spells no constraint within the limits.
+pub fn select(part: &[u8], keys: &[u64]) -> Option<u64>
     requires { length keys.now ≤ 64 }
     ensures { Selects part.now keys.now result }
 {
     if part.len() > 255 {
-        return Selection::Unread;
+        return None;
     }
-    let Parsed::Read { set, used } = constraint(part, keys, 16) else {
-        return Selection::Unread;
-    };
-    if used < part.len() {
-        return Selection::Unread;
+    let found = constraint(part, keys, 16)?;
+    if found.used < part.len() {
+        return None;
     }
-    Selection::Versions(set)
+    Some(found.value)
 }
 
-// Reads a part as one constraint and answers whether a version satisfies it.
-pub fn fits(part: &[u8], version: Version) -> Reading
+// Reads a part as one constraint and answers whether a version satisfies it. A part that spells no constraint within the limits is refused with 4.
+pub fn fits(part: &[u8], version: Version) -> Result<bool, Refusal>
     ensures { Answers part.now version result }
 {
     let keys = [pack(version)];
-    let Selection::Versions(set) = select(part, &keys) else {
-        return Reading::Refused(Refusal { number: 4 });
+    let Some(set) = select(part, &keys) else {
+        return Err(Refusal::Constraint);
     };
-    if bitset::has(set, 0) {
-        return Reading::Fits;
-    }
-    Reading::Misfits
+    Ok(bitset::has(set, 0))
 }

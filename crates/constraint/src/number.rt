@@ -1,86 +1,48 @@
 // Numbers: how far a text goes on as a number, and which.
 ghost use Rattle.constraint.specs.Numeral.{Digit};
-ghost use Rattle.constraint.specs.Reader.{Grows, Longest, ReadsField};
+ghost use Rattle.constraint.specs.Reader.{Grows, ReadsLongest, ReadsField};
 
-// What a byte does to the number read before it.
-#[derive(Clone, Copy)]
-pub enum Growth {
-    // It is one more digit, and makes it this number.
-    On(u16),
-    // It cannot stand there.
-    End,
-}
+use crate::Spelled;
 
-// A number, and how many bytes write it: none where there is no number.
-#[derive(Clone, Copy)]
-pub struct Written {
-    pub value: u16,
-    pub used: usize,
-}
-
-// A further byte after the `used` bytes that write `value`. A 0 in front is a number by itself.
-fn grown(value: u16, used: usize, byte: u8) -> Growth
-    ensures { Grows value used byte result }
+// The number with a further byte, after the number before it, if there is one: None where the byte cannot stand there. A 0 in front is a number by itself.
+fn grown(before: Option<u16>, byte: u8) -> Option<u16>
+    ensures { Grows before byte result }
 {
-    if byte < b'0' {
-        return Growth::End;
+    if !byte.is_ascii_digit() || before == Some(0) {
+        return None;
     }
-    if byte > b'9' {
-        return Growth::End;
-    }
-    if value == 0 {
-        if used > 0 {
-            return Growth::End;
-        }
-    }
-    let next = (value as u32) * 10 + ((byte - b'0') as u32);
-    if next > 65535 {
-        return Growth::End;
-    }
-    Growth::On(next as u16)
+    let next = u32::from(before.unwrap_or(0)) * 10 + u32::from(byte - b'0');
+    u16::try_from(next).ok()
 }
 
 // The longest number that a text begins with.
-pub fn longest(rest: &[u8]) -> Written
-    ensures { Longest rest.now result.value result.used }
+pub fn longest(rest: &[u8]) -> Option<Spelled<u16>>
+    ensures { ReadsLongest rest.now result }
 {
-    let mut value: u16 = 0;
-    let mut used = 0;
-    while used < rest.len() {
-        let Growth::On(next) = grown(value, used, rest[used]) else {
-            return Written { value, used };
+    let mut number: Option<u16> = None;
+    for (used, byte) in rest.iter().enumerate() {
+        let Some(next) = grown(number, *byte) else {
+            return number.map(|value| Spelled { value, used });
         };
-        value = next;
-        used += 1;
+        number = Some(next);
     }
-    Written { value, used }
+    number.map(|value| Spelled {
+        value,
+        used: rest.len(),
+    })
 }
 
-// A number and the byte that ends it, or no such beginning.
-#[derive(Clone, Copy)]
-pub enum Field {
-    Read { value: u16, used: usize },
-    Stopped,
-}
-
-// Reads a number that the byte `stop` ends.
-pub fn ended(rest: &[u8], stop: u8) -> Field
+// Reads a number that the byte `stop` ends: the number, with that byte among those used.
+pub fn ended(rest: &[u8], stop: u8) -> Option<Spelled<u16>>
     requires { ¬ Digit stop }
     ensures { ReadsField stop rest.now result }
 {
-    let number = longest(rest);
-    let used = number.used;
-    if used == 0 {
-        return Field::Stopped;
+    let Spelled { value, used } = longest(rest)?;
+    if *rest.get(used)? != stop {
+        return None;
     }
-    if used == rest.len() {
-        return Field::Stopped;
-    }
-    if rest[used] != stop {
-        return Field::Stopped;
-    }
-    Field::Read {
-        value: number.value,
+    Some(Spelled {
+        value,
         used: used + 1,
-    }
+    })
 }

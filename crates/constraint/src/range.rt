@@ -1,5 +1,7 @@
 // Ranges of keys: a bound lets through exactly the versions whose keys lie in one range.
+ghost use Rattle.std.specs.Prelude.{◌≡◌};
 ghost use Rattle.constraint.specs.Range.{bound_of, Spans, CaretEnds};
+ghost use Rattle.constraint.specs.Reader.{opened};
 
 use crate::Version;
 
@@ -12,7 +14,21 @@ pub enum Sign {
     Caret,
 }
 
-// The keys from low to high, both included.
+impl Sign {
+    // What opens a bound of the sign: a bracket, the sign and a space.
+    pub fn opening(self) -> &'static [u8]
+        ensures { result.now ≡ opened (bound_of self) }
+    {
+        match self {
+            Sign::Equal => b"(= ",
+            Sign::AtMost => b"(<= ",
+            Sign::AtLeast => b"(>= ",
+            Sign::Caret => b"(^ ",
+        }
+    }
+}
+
+// The keys from low to high, both included. A RangeInclusive is not copied and holds a flag besides, which no range of keys needs.
 #[derive(Clone, Copy)]
 pub struct Range {
     pub low: u64,
@@ -23,15 +39,15 @@ pub struct Range {
 fn last_of(version: Version) -> u64
     ensures { CaretEnds version result }
 {
-    let major = version.major as u64;
-    let minor = version.minor as u64;
+    let major = u64::from(version.major);
+    let minor = u64::from(version.minor);
     if major > 0 {
         return (major + 1) * 4294967296 - 1;
     }
     if minor > 0 {
         return (minor + 1) * 65536 - 1;
     }
-    version.patch as u64
+    u64::from(version.patch)
 }
 
 // The keys that a bound lets through.
@@ -44,7 +60,7 @@ pub fn span(sign: Sign, version: Version) -> Range
         Sign::AtMost => Range { low: 0, high: at },
         Sign::AtLeast => Range {
             low: at,
-            high: 18446744073709551615,
+            high: u64::MAX,
         },
         Sign::Caret => Range {
             low: at,

@@ -3,76 +3,71 @@
 ghost use Rattle.std.specs.Prelude.{◌≤◌, length};
 ghost use Rattle.constraint.specs.Reader.{Shallow, Parses, ReadsPair};
 
+use crate::Spelled;
 use crate::bound::bound;
 use crate::keys::all;
-use crate::word::agreed;
 
-// The set of a constraint, and how many bytes spell it.
+// The sets of a pair's two sides.
 #[derive(Clone, Copy)]
-pub enum Parsed {
-    Read { set: u64, used: usize },
-    Stopped,
-}
-
-// The sets of a pair's two sides, and how many bytes spell them, with the bracket that closes them.
-#[derive(Clone, Copy)]
-pub enum Sides {
-    Read { one: u64, other: u64, used: usize },
-    Stopped,
+pub struct Sides {
+    pub one: u64,
+    pub other: u64,
 }
 
 // Reads a constraint of at most the depth that is left.
 #[cycle(constraint_pair)]
-pub fn constraint(rest: &[u8], keys: &[u64], left: u32) -> Parsed
+pub fn constraint(rest: &[u8], keys: &[u64], left: u32) -> Option<Spelled<u64>>
     requires { length keys.now ≤ 64 }
     ensures { Parses (Shallow left) rest.now keys.now result }
 {
     if left == 0 {
-        return Parsed::Stopped;
+        return None;
     }
-    if agreed(rest, b"*") == 1 {
-        let set = all(keys.len());
-        return Parsed::Read { set, used: 1 };
+    if rest.starts_with(b"*") {
+        return Some(Spelled {
+            value: all(keys.len()),
+            used: 1,
+        });
     }
-    if agreed(rest, b"(and ") == 5 {
-        let Sides::Read { one, other, used } = pair(&rest[5..], keys, left - 1) else {
-            return Parsed::Stopped;
-        };
-        let set = one & other;
-        let used = used + 5;
-        return Parsed::Read { set, used };
+    if rest.starts_with(b"(and ") {
+        let sides = pair(&rest[5..], keys, left - 1)?;
+        return Some(Spelled {
+            value: sides.value.one & sides.value.other,
+            used: sides.used + 5,
+        });
     }
-    if agreed(rest, b"(or ") == 4 {
-        let Sides::Read { one, other, used } = pair(&rest[4..], keys, left - 1) else {
-            return Parsed::Stopped;
-        };
-        let set = one | other;
-        let used = used + 4;
-        return Parsed::Read { set, used };
+    if rest.starts_with(b"(or ") {
+        let sides = pair(&rest[4..], keys, left - 1)?;
+        return Some(Spelled {
+            value: sides.value.one | sides.value.other,
+            used: sides.used + 4,
+        });
     }
     bound(rest, keys)
 }
 
 // Reads a pair's two sides, each of at most the depth that is left.
 #[cycle(constraint_pair)]
-fn pair(rest: &[u8], keys: &[u64], left: u32) -> Sides
+fn pair(rest: &[u8], keys: &[u64], left: u32) -> Option<Spelled<Sides>>
     requires { length keys.now ≤ 64 }
     ensures { ReadsPair left rest.now keys.now result }
 {
-    let Parsed::Read { set: one, used } = constraint(rest, keys, left) else {
-        return Sides::Stopped;
-    };
-    if agreed(&rest[used..], b" ") != 1 {
-        return Sides::Stopped;
+    let one = constraint(rest, keys, left)?;
+    if !rest[one.used..].starts_with(b" ") {
+        return None;
     }
-    let middle = used + 1;
-    let Parsed::Read { set: other, used } = constraint(&rest[middle..], keys, left) else {
-        return Sides::Stopped;
-    };
-    let close = middle + used;
-    if agreed(&rest[close..], b")") != 1 {
-        return Sides::Stopped;
+    let middle = one.used + 1;
+    let other = constraint(&rest[middle..], keys, left)?;
+    let close = middle + other.used;
+    if !rest[close..].starts_with(b")") {
+        return None;
     }
-    let used = close + 1;
-    Sides::Read { one, other, used }
+    let value = Sides {
+        one: one.value,
+        other: other.value,
+    };
+    Some(Spelled {
+        value,
+        used: close + 1,
+    })
 }

@@ -5,15 +5,5 @@ ghost use Rattle.constraint.specs.Reader.{Agrees};
 pub fn agreed(rest: &[u8], word: &[u8]) -> usize
     ensures { Agrees rest.now word.now result }
 {
-    let mut i = 0;
-    while i < word.len() {
-        if i == rest.len() {
-            return i;
-        }
-        if rest[i] != word[i] {
-            return i;
-        }
-        i += 1;
-    }
-    i
+    rest.iter().zip(word).take_while(|(a, b)| a == b).count()
 }

@@ -8,7 +8,8 @@ use native.Mathlib.Omega.{arith}
 use lib.ListN.{length, get_or, take, drop}
 use lib.Seq.{take_at}
 use Rattle.basis.specs.Rows.{GivesNone}
-use Rattle.csv_text.specs.declared.Sheet.TheVariants.{Holds}
+use Rattle.std.proofs.Common.{Ok}
+use Rattle.csv_text.specs.declared.Sheet.{Sheet}
 use Rattle.csv_text.specs.Layout.{Line, Lays}
 use Rattle.csv_text.specs.Says.{entry_count, slot_count, entry_table, slot_table}
 use Rattle.csv_text.specs.Reading.{rows, Reads, refused, read}
@@ -55,12 +56,12 @@ tables_accepted {text} {lines} entries slots none l =
     short (no h) = absurd (none.1.1.1.0 (lines, l, omega arith))
 
 -- the front numbers that read has filled
-pub read_accepted : {text entries slots : List ℕ} {n m : ℕ} {entries' slots' : List ℕ} → Reads text entries slots (Holds n m) entries' slots'
-    → Accepted text n m (take (5 * n) entries') (take (4 * m) slots')
+pub read_accepted : {text entries slots : List ℕ} {s : Sheet} {entries' slots' : List ℕ} → Reads text entries slots (Ok s) entries' slots'
+    → Accepted text s.entries s.slots (take (5 * s.entries) entries') (take (4 * s.slots) slots')
 read_accepted (refused g e a b) = let z : ◌≡◌ {A = ℕ} 0 1 = cc in absurd (omega arith)
-read_accepted {text} {entries} {slots} {n} {m} {entries'} {slots'} (read {lines = lines} none l e a b) =
-    let of_entries : entry_count lines ≡ n = cc in
-    let of_slots : slot_count lines ≡ m = cc in
+read_accepted {text} {entries} {slots} {s} {entries'} {slots'} (read {lines = lines} none l e a b) =
+    let of_entries : entry_count lines ≡ s.entries = cc in
+    let of_slots : slot_count lines ≡ s.slots = cc in
     rw (← of_entries, ← of_slots, a, b, front_entries, front_slots) (tables_accepted entries slots none l)
   where
     front_entries : take (5 * entry_count lines) (entry_table lines ++ drop (5 * entry_count lines) entries) ≡ entry_table lines

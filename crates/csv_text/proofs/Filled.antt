@@ -2,25 +2,24 @@
 use mathlib.Core.Path.{◌≡◌, refl, sym, ap, ◌∙◌}
 use mathlib.Core.List.{List, [], ◌∷◌, ◌++◌, map, append_assoc}
 use Prim.Native.Nat.{ℕ, ◌+◌, ◌-◌, ◌*◌, ◌≤◌, ◌<◌}
-use native.Mathlib.Nat.{not-suc-le-zero}
 use native.Mathlib.Omega.{arith}
 use lib.ListN.{length, drop, length-append, length-drop, length-map}
 use lib.Seq.{take_at}
 use Rattle.constraint.specs.Numeral.{value}
-use Rattle.csv_text.specs.declared.fill.Reached.{Reached}
+use Rattle.csv_text.specs.declared.count.Progress.{Progress}
 use Rattle.csv_text.specs.declared.line.EntryParts.{EntryParts}
 use Rattle.csv_text.specs.declared.line.SlotParts.{SlotParts}
-use Rattle.csv_text.specs.declared.packages.Numbered.{Numbered}
+use Rattle.csv_text.specs.declared.packages.Names.{Names}
 use Rattle.csv_text.specs.Layout.{header, Line, entry, slot, body, Lays}
 use Rattle.csv_text.specs.Says.{name_of, place, packages, entry_count, slot_count, entry_rows, slot_rows, field_start}
 use Rattle.csv_text.specs.Reader.{IsLine, EntryFound, SlotFound, NoLine}
-use Rattle.csv_text.specs.Numbering.{part, known, Numbers}
+use Rattle.csv_text.specs.Numbering.{part, known, Room, Numbers}
 use Rattle.csv_text.specs.Filling.{Filling, Underway, Fills, Fillable, Filled, over, EntryRoom, Declares, SlotRoom, Wants}
 use Rattle.csv_text.proofs.Unique.{one_sheet}
 use Rattle.csv_text.proofs.Tables.{entry_rows_length, slot_rows_length}
 use Rattle.csv_text.proofs.Lines.{past, entry_size, slot_size}
-use Rattle.csv_text.proofs.Names.{place_within, distinct_few}
-use Rattle.csv_text.proofs.Marks.{known_length}
+use Rattle.csv_text.proofs.Names.{distinct_few}
+use Rattle.csv_text.proofs.Known.{known_length}
 use Rattle.csv_text.proofs.Rows.{row_behind, entry_rows_entry, entry_rows_slot, slot_rows_entry, slot_row, slot_rows_slot, packages_then, package_placed}
 use Rattle.csv_text.proofs.Walks.{◌then◌, Next, next_line, all_passed, lines_at_end, same_line, next_ok, lays_headed, walked_none, walked_on, counts_length, entry_next, slot_next, entry_before, entries_then_entry, slots_then_entry, entries_then_slot, slots_then_slot}
 use Rattle.csv_text.proofs.Found.{entry_of, slot_of, entry_within, slot_within}
@@ -59,8 +58,8 @@ rows_size : {table : List ℕ} (rows lent : List ℕ) (k : ℕ) → table ≡ ro
 rows_size rows lent k e f h = omega (arith, ap length e ∙ length-append rows (drop k lent), length-drop k lent)
 
 -- where more lines follow
-module _ {text lent_entries lent_slots : List ℕ} {lines done : List Line} {p : Reached} {starts ends entries slots : List ℕ}
-    (g : Filling text lent_entries lent_slots lines done p starts ends entries slots) (h : p.at + 2 < length text) where
+module _ {text lent_entries lent_slots : List ℕ} {lines done : List Line} {p : Progress} {names : Names} {entries slots : List ℕ}
+    (g : Filling text lent_entries lent_slots lines done p names entries slots) (h : p.at + 2 < length text) where
   coming : Next text lines done p.at
   coming = next_line g.walked g.limited.lays h
 
@@ -71,11 +70,11 @@ module _ {text lent_entries lent_slots : List ℕ} {lines done : List Line} {p :
   slots_before = omega (arith, g.limited.few_slots, ap slot_count coming.same ∙ slots_of_append done (coming.line ∷ coming.more))
 
   -- there is room for one name more
-  name_room : p.names < 320
+  name_room : names.count < 320
   name_room =
       omega (
         arith,
-        sym (known_length text starts ends p.names) ∙ ap length g.named,
+        sym (known_length names g.room) ∙ ap length g.named,
         distinct_few (map name_of done),
         length-map done name_of,
         counts_length done,
@@ -86,11 +85,11 @@ module _ {text lent_entries lent_slots : List ℕ} {lines done : List Line} {p :
 
   -- a name's number is its place among all packages
   module _ (line : Line) (more : List Line) (is : lines ≡ done ++ (line ∷ more)) {name : List ℕ} (called : name ≡ name_of line)
-      {r : Numbered} {starts' ends' : List ℕ} (n : Numbers text starts ends p.names name r starts' ends') where
-    place_final : r.place ≡ place (packages lines) (name_of line)
+      {r : ℕ} {names' : Names} (n : Numbers names name r names') where
+    place_final : r ≡ place (packages lines) (name_of line)
     place_final = n.placed ∙ cc (g.named, called) ∙ sym (package_placed lines done more line is)
 
-    named_then : known text starts' ends' r.known ≡ packages (done then line)
+    named_then : known names' ≡ packages (done then line)
     named_then = n.grown ∙ cc (g.named, called) ∙ sym (packages_then done line)
 
   entries_size : length entries ≡ 320
@@ -109,10 +108,10 @@ module _ {text lent_entries lent_slots : List ℕ} {lines done : List Line} {p :
     entry_same : lines ≡ done ++ (entry_of f ∷ coming.more)
     entry_same = entry_is g.limited.lays coming f
 
-    pub entry_room : EntryRoom text p e starts ends entries
+    pub entry_room : EntryRoom text p e names entries
     entry_room =
         record {
-          marked = g.marked;
+          room = g.room;
           name_room = name_room;
           row_room = omega (arith, entries_size, g.declared, g.limited.few_entries, ap entry_count entry_same ∙ entries_of_append done (entry_of f ∷ coming.more));
           within = entry_within text (p.at + 2) f (omega arith);
@@ -122,9 +121,9 @@ module _ {text lent_entries lent_slots : List ℕ} {lines done : List Line} {p :
     entry_name : part text (p.at + 2) (p.at + 2 + e.name) ≡ f.name
     entry_name = front_part text (p.at + 2) e.name f.name _ (f.whole ∙ append_assoc f.name _ f.rest) f.of_name
 
-    pub entry_filled : {r : Reached} {starts' ends' entries' : List ℕ} → Declares text p e starts ends entries r starts' ends' entries'
-        → Filling text lent_entries lent_slots lines (done then entry_of f) r starts' ends' entries' slots
-    entry_filled {r} {starts'} {ends'} {entries'} d =
+    pub entry_filled : {r : Progress} {names' : Names} {entries' : List ℕ} → Declares text p e names entries r names' entries'
+        → Filling text lent_entries lent_slots lines (done then entry_of f) r names' entries' slots
+    entry_filled {r} {names'} {entries'} d =
         rw d.reached
         (record {
           limited = g.limited;
@@ -134,13 +133,13 @@ module _ {text lent_entries lent_slots : List ℕ} {lines done : List Line} {p :
           declared = omega (arith, g.declared, counted);
           wanted = g.wanted ∙ sym (slots_then_entry done f.name f.x f.y f.z f.weight);
           named = named_then (entry_of f) coming.more entry_same entry_name d.numbers;
-          marked = d.numbers.marked;
+          room = d.numbers.room;
           entry_size = g.entry_size;
           slot_size = g.slot_size;
           entered =
               d.row
-              ∙ ap (λ (k : ℕ). over entries (5 * k) (d.numbered.place ∷ e.major ∷ e.minor ∷ e.patch ∷ e.weight ∷ [])) g.declared
-              ∙ row_behind (entry_rows (packages lines) done) lent_entries (d.numbered.place ∷ e.major ∷ e.minor ∷ e.patch ∷ e.weight ∷ []) (5 * entry_count done)
+              ∙ ap (λ (k : ℕ). over entries (5 * k) (d.number ∷ e.version.major ∷ e.version.minor ∷ e.version.patch ∷ e.weight ∷ [])) g.declared
+              ∙ row_behind (entry_rows (packages lines) done) lent_entries (d.number ∷ e.version.major ∷ e.version.minor ∷ e.version.patch ∷ e.weight ∷ []) (5 * entry_count done)
               (entry_rows_length (packages lines) done) g.entered
               ∙ cc (row, entry_rows_entry (packages lines) done f.name f.x f.y f.z f.weight, places);
           slotted =
@@ -157,7 +156,7 @@ module _ {text lent_entries lent_slots : List ℕ} {lines done : List Line} {p :
         places : 5 * entry_count done + 5 ≡ 5 * entry_count (done then entry_of f)
         places = omega (arith, counted)
 
-        row : d.numbered.place ∷ e.major ∷ e.minor ∷ e.patch ∷ e.weight ∷ []
+        row : d.number ∷ e.version.major ∷ e.version.minor ∷ e.version.patch ∷ e.weight ∷ []
             ≡ place (packages lines) f.name ∷ value f.x ∷ value f.y ∷ value f.z ∷ value f.weight ∷ []
         row = cc (place_final (entry_of f) coming.more entry_same entry_name d.numbers, f.of_major, f.of_minor, f.of_patch, f.of_weight)
 
@@ -169,10 +168,10 @@ module _ {text lent_entries lent_slots : List ℕ} {lines done : List Line} {p :
     some_entry : ¬ (entry_count done ≡ 0)
     some_entry = entry_before done f.name f.constraint coming.more (rw slot_same at g.limited.lays.first)
 
-    pub slot_room : SlotRoom text p e starts ends slots
+    pub slot_room : SlotRoom text p e names slots
     slot_room =
         record {
-          marked = g.marked;
+          room = g.room;
           name_room = name_room;
           row_room = omega (arith, slots_size, g.wanted, g.limited.few_slots, ap slot_count slot_same ∙ slots_of_append done (slot_of f ∷ coming.more));
           within = slot_within text (p.at + 2) f (omega arith);
@@ -187,9 +186,9 @@ module _ {text lent_entries lent_slots : List ℕ} {lines done : List Line} {p :
         let behind = sym (past text (p.at + 2) 3 (p.at + 2 + 3) refl) ∙ ap (λ (t : List ℕ). drop 3 t) f.whole in
         front_part text (p.at + 2 + 3) e.name f.name _ (behind ∙ append_assoc f.name _ f.rest) f.of_name
 
-    pub slot_filled : {r : Reached} {starts' ends' slots' : List ℕ} → Wants text p e starts ends slots r starts' ends' slots'
-        → Filling text lent_entries lent_slots lines (done then slot_of f) r starts' ends' entries slots'
-    slot_filled {r} {starts'} {ends'} {slots'} d =
+    pub slot_filled : {r : Progress} {names' : Names} {slots' : List ℕ} → Wants text p e names slots r names' slots'
+        → Filling text lent_entries lent_slots lines (done then slot_of f) r names' entries slots'
+    slot_filled {r} {names'} {slots'} d =
         rw d.reached
         (record {
           limited = g.limited;
@@ -199,7 +198,7 @@ module _ {text lent_entries lent_slots : List ℕ} {lines done : List Line} {p :
           declared = g.declared ∙ sym (entries_then_slot done f.name f.constraint);
           wanted = omega (arith, g.wanted, counted);
           named = named_then (slot_of f) coming.more slot_same slot_name d.numbers;
-          marked = d.numbers.marked;
+          room = d.numbers.room;
           entry_size = g.entry_size;
           slot_size = g.slot_size;
           entered = g.entered ∙ cc (entry_rows_slot (packages lines) done f.name f.constraint, entries_then_slot done f.name f.constraint);
@@ -212,7 +211,7 @@ module _ {text lent_entries lent_slots : List ℕ} {lines done : List Line} {p :
         })
       where
         written_row : List ℕ
-        written_row = (p.entries - 1) ∷ d.numbered.place ∷ (p.at + 2 + 3 + e.name + 1) ∷ (p.at + 2 + 3 + e.name + 1 + e.constraint) ∷ []
+        written_row = (p.entries - 1) ∷ d.number ∷ (p.at + 2 + 3 + e.name + 1) ∷ (p.at + 2 + 3 + e.name + 1 + e.constraint) ∷ []
 
         counted : slot_count (done then slot_of f) ≡ slot_count done + 1
         counted = slots_then_slot done f.name f.constraint
@@ -228,34 +227,34 @@ module _ {text lent_entries lent_slots : List ℕ} {lines done : List Line} {p :
             cc (number, owner, start, f.of_constraint)
 
 -- one line more is passed, whichever it is
-module _ {text : List ℕ} {p : Reached} {starts ends entries slots : List ℕ} (h : p.at + 2 < length text) where
-  pub fills_entry : {e : EntryParts} (f : EntryFound (drop (p.at + 2) text) e) {r : Reached} {starts' ends' entries' : List ℕ}
-      → Declares text p e starts ends entries r starts' ends' entries' → Fills text p starts ends entries slots r starts' ends' entries' slots
+module _ {text : List ℕ} {p : Progress} {names : Names} {entries slots : List ℕ} (h : p.at + 2 < length text) where
+  pub fills_entry : {e : EntryParts} (f : EntryFound (drop (p.at + 2) text) e) {r : Progress} {names' : Names} {entries' : List ℕ}
+      → Declares text p e names entries r names' entries' → Fills text p names entries slots r names' entries' slots
   fills_entry f d =
       record { onward = rw d.reached (omega arith); filled = λ lent_entries lent_slots lines done g. (entry_of f, entry_filled g h f d) }
 
-  pub fills_slot : {e : SlotParts} (f : SlotFound (drop (p.at + 2) text) e) {r : Reached} {starts' ends' slots' : List ℕ}
-      → Wants text p e starts ends slots r starts' ends' slots' → Fills text p starts ends entries slots r starts' ends' entries slots'
+  pub fills_slot : {e : SlotParts} (f : SlotFound (drop (p.at + 2) text) e) {r : Progress} {names' : Names} {slots' : List ℕ}
+      → Wants text p e names slots r names' slots' → Fills text p names entries slots r names' entries slots'
   fills_slot f d = record { onward = rw d.reached (omega arith); filled = λ lent_entries lent_slots lines done g. (slot_of f, slot_filled g h f d) }
 
 -- a line stands there
-pub no_line_left : {text : List ℕ} {p : Reached} {starts ends entries slots : List ℕ} → Underway text p starts ends entries slots → ¬ NoLine IsLine (drop (p.at + 2) text)
+pub no_line_left : {text : List ℕ} {p : Progress} {names : Names} {entries slots : List ℕ} → Underway text p names entries slots → ¬ NoLine IsLine (drop (p.at + 2) text)
 no_line_left v never =
     let g = v.filling in
     let x = next_line g.walked g.limited.lays v.more in
     never x.line tt (next_ok g.limited.lays x) (body x.more ++ x.ending) (lines_at_end x.more x.ending x.ends) x.rest
 
 -- before the first line
-pub filling_none : {text entries slots : List ℕ} (starts ends : List ℕ) (v : Fillable text entries slots) → length starts ≡ 320 → length ends ≡ 320
-    → Filling text entries slots v.lines [] (record { at = 39; entries = 0; slots = 0; names = 0 }) starts ends entries slots
-filling_none {text} starts ends v s e =
+pub filling_none : {text entries slots : List ℕ} {names : Names} (v : Fillable text entries slots) → known names ≡ [] → Room names
+    → Filling text entries slots v.lines [] (record { at = 39; entries = 0; slots = 0 }) names entries slots
+filling_none v empty room =
     record {
       limited = v.limited;
       walked = walked_none (lays_headed v.limited.lays);
       declared = refl;
       wanted = refl;
-      named = refl;
-      marked = record { starts_size = s; ends_size = e; few = omega arith; each = λ i h. absurd (not-suc-le-zero h) };
+      named = empty;
+      room = room;
       entry_size = v.entry_size;
       slot_size = v.slot_size;
       entered = refl;
@@ -263,8 +262,8 @@ filling_none {text} starts ends v s e =
     }
 
 -- behind the last
-pub all_filled : {text lent_entries lent_slots : List ℕ} {lines done : List Line} {p : Reached} {starts ends entries slots : List ℕ}
-    → Filling text lent_entries lent_slots lines done p starts ends entries slots → length text ≤ p.at + 2 → Filled text lent_entries lent_slots entries slots
+pub all_filled : {text lent_entries lent_slots : List ℕ} {lines done : List Line} {p : Progress} {names : Names} {entries slots : List ℕ}
+    → Filling text lent_entries lent_slots lines done p names entries slots → length text ≤ p.at + 2 → Filled text lent_entries lent_slots entries slots
 all_filled {text} {lent_entries} {lent_slots} {lines} {done} {entries = entries} {slots = slots} g h =
     record {
       entered = λ ls l. rw (← (same ls l)) (rw (all_passed g.walked g.limited.lays h) at g.entered);
@@ -273,8 +272,3 @@ all_filled {text} {lent_entries} {lent_slots} {lines} {done} {entries = entries}
   where
     same : (ls : List Line) → Lays text ls → lines ≡ ls
     same ls l = one_sheet g.limited.lays l
-
--- a name's number is small
-pub place_small : {text starts ends : List ℕ} {k : ℕ} {name : List ℕ} {r : Numbered} {starts' ends' : List ℕ} → Numbers text starts ends k name r starts' ends' → k < 320
-    → r.place < 320
-place_small {text} {starts} {ends} {k} {name} n h = omega (arith, n.placed, place_within (known text starts ends k) name, known_length text starts ends k)

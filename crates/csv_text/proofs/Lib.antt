@@ -10,7 +10,7 @@ pub mod Found
 pub mod Walks
 pub mod Counted
 pub mod Names
-pub mod Marks
+pub mod Known
 pub mod Rows
 pub mod Filled
 pub mod Answers

@@ -1,4 +1,4 @@
--- The layout of a catalogue's text (document 01, "The text and the program"): RFC 4180 records under a fixed header. As with constraints there is no parser in
+-- The layout of a catalogue's text: RFC 4180 records under a fixed header. As with constraints there is no parser in
 -- this: a text is in the layout if it is the text of some lines.
 use Rattle.std.specs.Prelude.{◌≡◌, List, [], ◌∷◌, ◌++◌, ◌⊎◌, ℕ, ◌≤◌, length}
 use Rattle.basis.specs.Bytes.{bytes, All}

@@ -1,12 +1,12 @@
 -- What the readers of the parts of a sheet answer: how many bytes of a text a reader has used, and what they say.
-use Rattle.std.specs.Prelude.{◌≡◌, List, [], ◌∷◌, ◌++◌, ◌⊎◌, ℕ, ◌+◌, ◌≤◌, ◌<◌, length, get_or, take}
+use Rattle.std.specs.Prelude.{◌≡◌, List, [], ◌∷◌, ◌++◌, ◌⊎◌, ℕ, ◌+◌, ◌≤◌, ◌<◌, length, get_or, take, Option, MatchOption}
 use Rattle.basis.specs.Bytes.{All}
 use Rattle.constraint.specs.Numeral.{value}
 use Rattle.csv_text.specs.declared.line.Release.{Release}
 use Rattle.csv_text.specs.declared.line.EntryParts.{EntryParts}
 use Rattle.csv_text.specs.declared.line.SlotParts.{SlotParts}
-use Rattle.csv_text.specs.declared.line.Parsed.{Parsed}
-use Rattle.csv_text.specs.declared.line.Parsed.TheVariants.{Entry, Slot, Bad}
+use Rattle.csv_text.specs.declared.line.Record.{Record}
+use Rattle.csv_text.specs.declared.line.Record.TheVariants.{Entry, Slot}
 use Rattle.csv_text.specs.Layout.{crlf, header, Number, Line, entry, slot, written, EntryLine, SlotLine, LineOk}
 
 -- a text begins with a word
@@ -27,25 +27,48 @@ pub record Run (P : ℕ → Type 0) (text : List ℕ) (r : ℕ) : Type 0 where
   pub each : All P (take r text)
   pub stops : r < length text → ¬ P (get_or text r 0)
 
--- a field that has P stands in front of the byte a, and is u bytes long; u is 0 where there is none
-pub data Field (P : List ℕ → Type 0) (a : ℕ) (text : List ℕ) (u : ℕ) : Type 0 where
-  found : (bs s : List ℕ) → P bs → text ≡ bs ++ (a ∷ s) → u ≡ length bs → Field P a text u
-  none : ((bs s : List ℕ) → P bs → ¬ (text ≡ bs ++ (a ∷ s))) → u ≡ 0 → Field P a text u
+-- no field that has P stands in front of the byte a
+abbrev pub NoField : (List ℕ → Type 0) → ℕ → List ℕ → Type 0
+NoField P a text = (bs s : List ℕ) → P bs → ¬ (text ≡ bs ++ (a ∷ s))
 
--- such a field that is a number, n
-pub record NumberField (a : ℕ) (text : List ℕ) (n u : ℕ) : Type 0 where
-  pub field : Field Number a text u
-  pub worth : n ≡ value (take u text)
+-- a field that has P stands there, and is u bytes long
+pub record FieldFound (P : List ℕ → Type 0) (a : ℕ) (text : List ℕ) (u : ℕ) : Type 0 where
+  pub bs : List ℕ
+  pub rest : List ℕ
+  pub is : P bs
+  pub whole : text ≡ bs ++ (a ∷ rest)
+  pub size : u ≡ length bs
+
+-- its length, if there is one
+abbrev pub Field : (List ℕ → Type 0) → ℕ → List ℕ → Option ℕ → Type 0
+Field P a text r = MatchOption r (NoField P a text) (FieldFound P a text)
 
 -- a version and the comma behind it, and then s
 abbrev pub dotted : (x y z s : List ℕ) → List ℕ
 dotted x y z s = x ++ (46 ∷ (y ++ (46 ∷ (z ++ (44 ∷ s)))))
 
--- a text begins with a version and a comma, of so many bytes together; or with none, and the number of bytes is 0
-pub data Released (text : List ℕ) (r : Release) : Type 0 where
-  found : (x y z s : List ℕ) → Number x → Number y → Number z → text ≡ dotted x y z s
-      → r.major ≡ value x → r.minor ≡ value y → r.patch ≡ value z → r.used ≡ length x + 1 + (length y + 1) + (length z + 1) → Released text r
-  none : ((x y z s : List ℕ) → Number x → Number y → Number z → ¬ (text ≡ dotted x y z s)) → r.used ≡ 0 → Released text r
+-- a text begins with no version and a comma
+abbrev pub NoVersion : List ℕ → Type 0
+NoVersion text = (x y z s : List ℕ) → Number x → Number y → Number z → ¬ (text ≡ dotted x y z s)
+
+-- a text begins with a version and a comma, of so many bytes together
+pub record VersionFound (text : List ℕ) (r : Release) : Type 0 where
+  pub x : List ℕ
+  pub y : List ℕ
+  pub z : List ℕ
+  pub rest : List ℕ
+  pub major : Number x
+  pub minor : Number y
+  pub patch : Number z
+  pub whole : text ≡ dotted x y z rest
+  pub of_major : r.version.major ≡ value x
+  pub of_minor : r.version.minor ≡ value y
+  pub of_patch : r.version.patch ≡ value z
+  pub used : r.used ≡ length x + 1 + (length y + 1) + (length z + 1)
+
+-- the version that a text begins with, if there is one
+abbrev pub Released : List ℕ → Option Release → Type 0
+Released text r = MatchOption r (NoVersion text) (VersionFound text)
 
 -- the two kinds of lines
 abbrev pub IsEntry : Line → Type 0
@@ -71,9 +94,9 @@ pub record EntryFound (text : List ℕ) (e : EntryParts) : Type 0 where
   pub whole : text ≡ written (entry name x y z weight) ++ rest
   pub ends : AtEnd rest
   pub of_name : e.name ≡ length name
-  pub of_major : e.major ≡ value x
-  pub of_minor : e.minor ≡ value y
-  pub of_patch : e.patch ≡ value z
+  pub of_major : e.version.major ≡ value x
+  pub of_minor : e.version.minor ≡ value y
+  pub of_patch : e.version.patch ≡ value z
   pub of_weight : e.weight ≡ value weight
   pub used : e.used ≡ length (written (entry name x y z weight))
 
@@ -93,8 +116,18 @@ pub record SlotFound (text : List ℕ) (e : SlotParts) : Type 0 where
 abbrev pub NoLine : (Line → Type 0) → List ℕ → Type 0
 NoLine K text = (line : Line) → K line → LineOk line → (s : List ℕ) → AtEnd s → ¬ (text ≡ written line ++ s)
 
--- a text begins with a line of the kind K that ends there; or with none
-pub data Parses (K : Line → Type 0) (text : List ℕ) (r : Parsed) : Type 0 where
-  entry_line : (e : EntryParts) → EntryFound text e → r ≡ Entry e → Parses K text r
-  slot_line : (e : SlotParts) → SlotFound text e → r ≡ Slot e → Parses K text r
-  bad : NoLine K text → r ≡ Bad → Parses K text r
+-- what the readers of one kind answer
+abbrev pub ParsesEntry : List ℕ → Option EntryParts → Type 0
+ParsesEntry text r = MatchOption r (NoLine IsEntry text) (EntryFound text)
+
+abbrev pub ParsesSlot : List ℕ → Option SlotParts → Type 0
+ParsesSlot text r = MatchOption r (NoLine IsSlot text) (SlotFound text)
+
+-- a record's line, of either kind
+abbrev pub RecordFound : List ℕ → Record → Type 0
+RecordFound text (Entry e) = EntryFound text e
+RecordFound text (Slot e) = SlotFound text e
+
+-- a text begins with a line that ends there; or with none
+abbrev pub Parses : List ℕ → Option Record → Type 0
+Parses text r = MatchOption r (NoLine IsLine text) (RecordFound text)

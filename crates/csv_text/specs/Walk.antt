@@ -1,11 +1,7 @@
 -- How far a text has been read: the lines that are passed, and what the two passes over the text answer.
-use Rattle.std.specs.Prelude.{◌≡◌, List, [], ◌∷◌, ◌++◌, ℕ, ◌+◌, ◌≤◌, ◌<◌, length, drop}
+use Rattle.std.specs.Prelude.{◌≡◌, List, [], ◌∷◌, ◌++◌, ℕ, ◌+◌, ◌≤◌, ◌<◌, length, drop, Option, MatchOption}
 use Rattle.basis.specs.Bytes.{All}
 use Rattle.csv_text.specs.declared.count.Progress.{Progress}
-use Rattle.csv_text.specs.declared.count.Step.{Step}
-use Rattle.csv_text.specs.declared.count.Step.TheVariants.{On, Outside as Stopped}
-use Rattle.csv_text.specs.declared.count.Tally.{Tally}
-use Rattle.csv_text.specs.declared.count.Tally.TheVariants.{Lines, Outside}
 use Rattle.csv_text.specs.Layout.{header, Line, LineOk, EntryFirst, body, Lays}
 use Rattle.csv_text.specs.Says.{entry_count, slot_count}
 use Rattle.csv_text.specs.Reader.{AtEnd}
@@ -30,13 +26,26 @@ pub record Counting (text : List ℕ) (done : List Line) (p : Progress) : Type 0
 abbrev pub Unfinished : List ℕ → Progress → Type 0
 Unfinished text p = ((done : List Line) × Counting text done p) × (p.at + 2 < length text)
 
--- one line more is passed, or the text is outside the layout
-pub data Advances (text : List ℕ) (p : Progress) (r : Step) : Type 0 where
-  on : (next : Progress) → r ≡ On next → p.at < next.at
-      → ((done : List Line) → Counting text done p → (line : Line) × Counting text (done ++ (line ∷ [])) next) → Advances text p r
-  stopped : r ≡ Stopped → ((lines : List Line) → ¬ Lays text lines) → Advances text p r
+-- the text is outside the layout
+abbrev pub Outside : List ℕ → Type 0
+Outside text = (lines : List Line) → ¬ Lays text lines
 
--- the text is in the layout, with so many entries and slots; or outside it
-pub data Counts (text : List ℕ) (r : Tally) : Type 0 where
-  counted : (lines : List Line) → Lays text lines → r ≡ Lines (entry_count lines) (slot_count lines) → Counts text r
-  outside : r ≡ Outside → ((lines : List Line) → ¬ Lays text lines) → Counts text r
+-- one line more is passed
+pub record Onward (text : List ℕ) (p next : Progress) : Type 0 where
+  pub further : p.at < next.at
+  pub counting : (done : List Line) → Counting text done p → (line : Line) × Counting text (done ++ (line ∷ [])) next
+
+-- that, or the text is outside the layout
+abbrev pub Advances : List ℕ → Progress → Option Progress → Type 0
+Advances text p r = MatchOption r (Outside text) (Onward text p)
+
+-- the text is in the layout, with so many entries and slots
+pub record Counted (text : List ℕ) (p : Progress) : Type 0 where
+  pub lines : List Line
+  pub lays : Lays text lines
+  pub entries : p.entries ≡ entry_count lines
+  pub slots : p.slots ≡ slot_count lines
+
+-- that, or the text is outside it
+abbrev pub Counts : List ℕ → Option Progress → Type 0
+Counts text r = MatchOption r (Outside text) (Counted text)

@@ -1,10 +1,10 @@
 // Pass one over the text: whether it is in the layout, and how many entries and slots it declares. It writes nothing.
 ghost use Rattle.csv_text.specs.Walk.{Unfinished, Advances, Counts};
 
-use crate::line::Parsed;
+use crate::line::Record;
 use crate::{line, word};
 
-// How far the text is read, and what was declared so far.
+// How far the text is read, and how many entries and slots were declared so far.
 #[derive(Clone, Copy)]
 pub struct Progress {
     pub at: usize,
@@ -12,70 +12,49 @@ pub struct Progress {
     pub slots: usize,
 }
 
-#[derive(Clone, Copy)]
-pub enum Step {
-    On(Progress),
-    // The text is outside the layout.
-    Outside,
-}
+// Before the first record: what follows the header.
+pub const START: Progress = Progress {
+    at: word::HEADER,
+    entries: 0,
+    slots: 0,
+};
 
-#[derive(Clone, Copy)]
-pub enum Tally {
-    Lines { entries: usize, slots: usize },
-    // The text is outside the layout.
-    Outside,
-}
-
-// Past one line more: the record behind the CR LF at `here.at`. A slot before any entry is outside the layout.
-fn advance(text: &[u8], here: Progress) -> Step
+// Past one line more: the record behind the CR LF at `here.at`. There is none where the text is outside the layout, as with a slot before any entry.
+fn advance(text: &[u8], here: Progress) -> Option<Progress>
     requires { Unfinished text.now here }
     ensures { Advances text.now here result }
 {
     let from = here.at + 2;
-    let found = line::parse(&text[from..]);
-    match found {
-        Parsed::Entry(entry) => Step::On(Progress {
+    match line::parse(&text[from..])? {
+        Record::Entry(entry) => Some(Progress {
             at: from + entry.used,
             entries: here.entries + 1,
             slots: here.slots,
         }),
-        Parsed::Slot(slot) => {
+        Record::Slot(slot) => {
             if here.entries == 0 {
-                return Step::Outside;
+                return None;
             }
-            Step::On(Progress {
+            Some(Progress {
                 at: from + slot.used,
                 entries: here.entries,
                 slots: here.slots + 1,
             })
         }
-        Parsed::Bad => Step::Outside,
     }
 }
 
-// All lines of a text.
-pub fn lines(text: &[u8]) -> Tally
+// What all lines of a text declare, if it is in the layout.
+pub fn lines(text: &[u8]) -> Option<Progress>
     ensures { Counts text.now result }
 {
-    if text.len() > 65535 {
-        return Tally::Outside;
+    if text.len() > 65535 || !word::headed(text) {
+        return None;
     }
-    if !word::headed(text) {
-        return Tally::Outside;
-    }
-    let mut here = Progress {
-        at: word::HEADER,
-        entries: 0,
-        slots: 0,
-    };
+    // It stays a loop: an iterator of records would carry the same state, and say no sooner where the text is outside the layout.
+    let mut here = START;
     while here.at + 2 < text.len() {
-        let Step::On(next) = advance(text, here) else {
-            return Tally::Outside;
-        };
-        here = next;
+        here = advance(text, here)?;
     }
-    Tally::Lines {
-        entries: here.entries,
-        slots: here.slots,
-    }
+    Some(here)
 }

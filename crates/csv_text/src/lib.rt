@@ -1,8 +1,7 @@
-// Reading a catalogue from text (document 01, "The text and the program"): the answer, and the public call.
+// Reading a catalogue from text: the answer, and the public call.
 #![tactic(auto)]
 
 use basis::Refusal;
-use count::Tally;
 
 mod count;
 mod field;
@@ -16,43 +15,32 @@ ghost use Rattle.csv_text.specs.Reading.{Reads};
 pub use field::plain_bytes;
 pub use word::HEADER;
 
+// The numbers of entries and slots that the tables hold.
 #[derive(Clone, Copy)]
-pub enum Sheet {
-    // The text is outside the layout or the limits, or a lent table is of another size.
-    Refused(Refusal),
-    // The numbers of entries and slots that the tables now hold.
-    Holds { entries: u16, slots: u16 },
+pub struct Sheet {
+    pub entries: u16,
+    pub slots: u16,
 }
 
 // Fills lent tables of 320 and 1024 numbers from a text. A refusal leaves both as they were.
-pub fn read(text: &[u8], entries: &mut [u16], slots: &mut [u16]) -> Sheet
+pub fn read(text: &[u8], entries: &mut [u16], slots: &mut [u16]) -> Result<Sheet, Refusal>
     ensures { Reads text.now entries.old slots.old result entries.new slots.new }
 {
-    if entries.len() != 320 {
-        return Sheet::Refused(Refusal { number: 7 });
+    if entries.len() != 320 || slots.len() != 1024 {
+        return Err(Refusal::Size);
     }
-    if slots.len() != 1024 {
-        return Sheet::Refused(Refusal { number: 7 });
-    }
-    let Tally::Lines {
-        entries: declared,
-        slots: wanted,
-    } = count::lines(text)
-    else {
-        return Sheet::Refused(Refusal { number: 12 });
+    let Some(counted) = count::lines(text) else {
+        return Err(Refusal::Text);
     };
-    if declared == 0 {
-        return Sheet::Refused(Refusal { number: 1 });
+    if counted.entries == 0 || counted.entries > 64 {
+        return Err(Refusal::Entries);
     }
-    if declared > 64 {
-        return Sheet::Refused(Refusal { number: 1 });
-    }
-    if wanted > 256 {
-        return Sheet::Refused(Refusal { number: 3 });
+    if counted.slots > 256 {
+        return Err(Refusal::Slots);
     }
     fill::tables(text, entries, slots);
-    Sheet::Holds {
-        entries: declared as u16,
-        slots: wanted as u16,
-    }
+    Ok(Sheet {
+        entries: counted.entries as u16,
+        slots: counted.slots as u16,
+    })
 }

@@ -1,14 +1,13 @@
 // Lines: what one record declares. Each reader takes the text from where the record begins, and answers how many bytes it used.
-ghost use Rattle.csv_text.specs.Reader.{Released, IsEntry, IsSlot, IsLine, Parses};
+ghost use Rattle.csv_text.specs.Reader.{Released, ParsesEntry, ParsesSlot, Parses};
 
 use crate::{field, word};
+use constraint::{Version, number};
 
-// A version and the comma behind it, and how many bytes they are: 0 where there is none.
+// A version and the comma behind it, and how many bytes they are.
 #[derive(Clone, Copy)]
 pub struct Release {
-    pub major: u16,
-    pub minor: u16,
-    pub patch: u16,
+    pub version: Version,
     pub used: usize,
 }
 
@@ -16,9 +15,7 @@ pub struct Release {
 #[derive(Clone, Copy)]
 pub struct EntryParts {
     pub name: usize,
-    pub major: u16,
-    pub minor: u16,
-    pub patch: u16,
+    pub version: Version,
     pub weight: u16,
     pub used: usize,
 }
@@ -31,114 +28,80 @@ pub struct SlotParts {
     pub used: usize,
 }
 
+// What one record declares.
 #[derive(Clone, Copy)]
-pub enum Parsed {
+pub enum Record {
     Entry(EntryParts),
     Slot(SlotParts),
-    // The record is outside the layout.
-    Bad,
 }
 
-const NO_RELEASE: Release = Release {
-    major: 0,
-    minor: 0,
-    patch: 0,
-    used: 0,
-};
-
-fn version(rest: &[u8]) -> Release
+fn version(rest: &[u8]) -> Option<Release>
     ensures { Released rest.now result }
 {
-    let major = field::number(rest, b'.');
-    if major.used == 0 {
-        return NO_RELEASE;
-    }
-    let second = major.used + 1;
-    let minor = field::number(&rest[second..], b'.');
-    if minor.used == 0 {
-        return NO_RELEASE;
-    }
-    let third = second + minor.used + 1;
-    let patch = field::number(&rest[third..], b',');
-    if patch.used == 0 {
-        return NO_RELEASE;
-    }
-    Release {
-        major: major.value,
-        minor: minor.value,
-        patch: patch.value,
-        used: third + patch.used + 1,
-    }
+    let major = number::ended(rest, b'.')?;
+    let minor = number::ended(&rest[major.used..], b'.')?;
+    let third = major.used + minor.used;
+    let patch = number::ended(&rest[third..], b',')?;
+    Some(Release {
+        version: Version {
+            major: major.value,
+            minor: minor.value,
+            patch: patch.value,
+        },
+        used: third + patch.used,
+    })
 }
 
-fn entry(rest: &[u8]) -> Parsed
-    ensures { Parses IsEntry rest.now result }
+fn entry(rest: &[u8]) -> Option<EntryParts>
+    ensures { ParsesEntry rest.now result }
 {
-    let name = field::name(rest);
-    if name == 0 {
-        return Parsed::Bad;
-    }
+    let name = field::name(rest)?;
     let versioned = name + 1;
-    let release = version(&rest[versioned..]);
-    if release.used == 0 {
-        return Parsed::Bad;
-    }
+    let release = version(&rest[versioned..])?;
     let weighed = versioned + release.used;
-    let weight = field::number(&rest[weighed..], b',');
-    if weight.used == 0 {
-        return Parsed::Bad;
-    }
-    let last = weighed + weight.used + 1;
-    if !word::begins(&rest[last..], b",") {
-        return Parsed::Bad;
+    let weight = number::ended(&rest[weighed..], b',')?;
+    let last = weighed + weight.used;
+    if !rest[last..].starts_with(b",") {
+        return None;
     }
     let used = last + 1;
     if !word::at_end(&rest[used..]) {
-        return Parsed::Bad;
+        return None;
     }
-    Parsed::Entry(EntryParts {
+    Some(EntryParts {
         name,
-        major: release.major,
-        minor: release.minor,
-        patch: release.patch,
+        version: release.version,
         weight: weight.value,
         used,
     })
 }
 
-fn slot(rest: &[u8]) -> Parsed
-    ensures { Parses IsSlot rest.now result }
+fn slot(rest: &[u8]) -> Option<SlotParts>
+    ensures { ParsesSlot rest.now result }
 {
-    if !word::begins(rest, b",,,") {
-        return Parsed::Bad;
+    if !rest.starts_with(b",,,") {
+        return None;
     }
-    let name = field::name(&rest[3..]);
-    if name == 0 {
-        return Parsed::Bad;
-    }
+    let name = field::name(&rest[3..])?;
     let start = 3 + name + 1;
     let constraint = field::plain_bytes(&rest[start..]);
-    if constraint == 0 {
-        return Parsed::Bad;
-    }
     let used = start + constraint;
-    if !word::at_end(&rest[used..]) {
-        return Parsed::Bad;
+    if constraint == 0 || !word::at_end(&rest[used..]) {
+        return None;
     }
-    Parsed::Slot(SlotParts {
+    Some(SlotParts {
         name,
         constraint,
         used,
     })
 }
 
-// The line that a text begins with.
-pub fn parse(rest: &[u8]) -> Parsed
-    ensures { Parses IsLine rest.now result }
+// The record that a text begins with.
+pub fn parse(rest: &[u8]) -> Option<Record>
+    ensures { Parses rest.now result }
 {
-    let found = slot(rest);
-    if let Parsed::Bad = found {
-        return entry(rest);
+    if let Some(found) = slot(rest) {
+        return Some(Record::Slot(found));
     }
-    found
+    Some(Record::Entry(entry(rest)?))
 }

@@ -2,12 +2,11 @@
 use mathlib.Core.Path.{◌≡◌, refl}
 use mathlib.Core.List.{List}
 use Prim.Native.Nat.{ℕ, zero, suc}
-use Rattle.pacsolve.specs.declared.Cost.{Cost}
+use Rattle.std.specs.Prelude.{Ok, Err}
+use Rattle.pacsolve.specs.declared.Listed.{Listed}
 use Rattle.catalogue.specs.Tables.{Lent}
-use Rattle.lister.specs.declared.Answer.{Answer}
-use Rattle.lister.specs.declared.Answer.TheVariants.{Refused, Plan}
 use Rattle.lister.specs.declared.ListingRecord.{ListingRecord}
-use Rattle.lister.specs.Answers.{Nexts}
+use Rattle.lister.specs.Answers.{Answer, Nexts}
 use Rattle.lister.specs.Turns.{fresh}
 use Rattle.lister.specs.Asking.{Asking, Turning}
 use Rattle.lister.proofs.Outcome.{first_some, next_some}
@@ -16,12 +15,12 @@ use Rattle.lister.proofs.TurnOutcome.{turn_some}
 module _ (L : Lent) (buffer : List ℕ) where
   -- after a plan the next is asked for; after a refusal nothing more is
   onward : Answer → List ℕ → Answer × List ℕ
-  onward (Refused r) x = (Refused r, x)
-  onward (Plan set c) x = let n = next_some L set x in (n.0, n.1)
+  onward (Err r) x = (Err r, x)
+  onward (Ok l) x = let n = next_some L l.set x in (n.0, n.1)
 
-  onward_next : (a : Answer) (x : List ℕ) (set : ℕ) (c : Cost) → a ≡ Plan set c → Nexts L set x (onward a x).0 (onward a x).1
+  onward_next : (a : Answer) (x : List ℕ) (l : Listed) → a ≡ Ok l → Nexts L l.set x (onward a x).0 (onward a x).1
   unfolding onward
-  onward_next a x set c e = rw e (next_some L set x).2
+  onward_next a x l e = rw e (next_some L l.set x).2
 
   -- what call i answers, and the buffer after it
   call : ℕ → Answer × List ℕ
@@ -37,7 +36,7 @@ module _ (L : Lent) (buffer : List ℕ) where
   asking_some = (
     λ i. (call i).0,
     before,
-    record { first = (first_some L buffer).2; next = λ i set c e. onward_next (call i).0 (call i).1 set c e },
+    record { first = (first_some L buffer).2; next = λ i l e. onward_next (call i).0 (call i).1 l e },
     refl,
   )
 

@@ -1,4 +1,4 @@
--- THE P TABLE HOLDS: the one theorem over all examples of document 01 that are marked P.
+-- THE P TABLE HOLDS: the one theorem over all worked examples.
 use Rattle.demands.specs.Bench.{PTable}
 use Rattle.demands.proofs.Carets.{caret_lines}
 use Rattle.demands.proofs.Input.{the_input}

@@ -5,7 +5,7 @@ use mathlib.Core.Logic.{inl, inr}
 use Prim.Native.Nat.{ℕ}
 use native.Mathlib.Omega.{arith}
 use lib.ListN.{length}
-use Rattle.basis.specs.Rows.{row, Gives, GivesNone}
+use Rattle.basis.specs.Rows.{row, Gives, GivesNone, number_of as refusal_number}
 use Rattle.basis.proofs.Rows.{gives_one, gives_last}
 use Rattle.pacsolve.specs.Plan.{plan}
 use Rattle.pacsolve.specs.Listing.{Asked, from_the_start, after, NoneLeft}
@@ -14,8 +14,7 @@ use Rattle.pacsolve.proofs.Listing.{listing_one}
 use Rattle.catalogue.specs.Tables.{Lent}
 use Rattle.catalogue.specs.Refusals.{rows}
 use Rattle.catalogue.specs.Gives.{problem}
-use Rattle.lister.specs.declared.Answer.{Answer}
-use Rattle.lister.specs.Answers.{Lists, refused, found, ask_rows, number_of}
+use Rattle.lister.specs.Answers.{Answer, Lists, refused, found, ask_rows, number_of}
 use Rattle.lister.proofs.Asked.{Backed, ask_eleven, asking_lists}
 use Rattle.lister.proofs.TurnedOver.{turning_lists}
 use Rattle.demands.specs.Demands.{Demand3}
@@ -37,11 +36,11 @@ module _ (L : Lent) (buffer : List ℕ) (sane : GivesNone (rows L (length buffer
 
   module _ (q : Asked) (a : Answer) (buffer' : List ℕ) where
     says_none_left : Lists L q buffer a buffer' → number_of a ≡ 11 → NoneLeft (problem L) q
-    says_none_left (refused {n = n} g e k) s = let same : n ≡ 11 = rw e at s in eleven_none_left q (rw same at g)
+    says_none_left (refused {r = r} g e k) s = let same : refusal_number r ≡ 11 = rw e at s in eleven_none_left q (rw same at g)
     says_none_left (found none l e k) s = let never : ◌≡◌ {A = ℕ} 0 11 = rw e at s in absurd (omega arith)
 
     says_eleven : Backed L q → Lists L q buffer a buffer' → NoneLeft (problem L) q → number_of a ≡ 11
-    says_eleven b (refused {n = n} g e k) none = rw e (gives_one (ask_rows L (length buffer) q) n 11 g (ask_eleven L (length buffer) q sane b none))
+    says_eleven b (refused {r = r} g e k) none = rw e (gives_one (ask_rows L (length buffer) q) (refusal_number r) 11 g (ask_eleven L (length buffer) q sane b none))
     says_eleven b (found h l e k) none = absurd (least_or_none_left (problem L) l none)
 
 -- For a sane catalogue, asking for the first plan and then for the next, or turning a fresh record, over and over, hands out the listing: every sound plan once, in

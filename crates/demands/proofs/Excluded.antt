@@ -1,4 +1,4 @@
--- The errors of reasoning that document 01 names are excluded by the definitions.
+-- Errors of reasoning about plans are excluded by the definitions.
 use mathlib.Core.List.{[], ◌∷◌}
 use mathlib.Core.Logic.{inl, inr}
 use mathlib.Core.Path.{refl}

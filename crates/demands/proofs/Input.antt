@@ -1,11 +1,11 @@
--- The input of document 01 in the P table: its bytes are in the layout, and the tables that its lines say give the two plans.
+-- The text of the P table: its bytes are in the layout, and the tables that its lines say give the two plans.
 use mathlib.Core.List.{[], ◌∷◌}
 use mathlib.Core.Logic.{inr}
 use mathlib.Core.Path.{refl}
 use Prim.Native.Nat.{ℕ}
 use native.Mathlib.Omega.{arith}
 use lib.ListN.{get_or}
-use Rattle.constraint.specs.Meaning.{Constraint, any, bound, at_most, at_least_lem, caret}
+use Rattle.constraint.specs.Meaning.{Constraint, any, bound, at_most, no_less, caret}
 use Rattle.catalogue.specs.Gives.{cargo, pip}
 use Rattle.csv_text.specs.Layout.{LineOk, Lays}
 use Rattle.csv_text.proofs.Outcome.{read_of}
@@ -22,7 +22,7 @@ box_lays = record { whole = inr refl; each = (all_tested LineOk line_tested box_
 -- what the five slots' parts are read as
 wants : ℕ → Constraint
 wants s =
-    get_or (any ∷ bound caret (version 1 0 0) ∷ bound at_least_lem (version 2 0 0) ∷ bound caret (version 1 0 0) ∷ bound at_most (version 1 9 9) ∷ []) s any
+    get_or (any ∷ bound caret (version 1 0 0) ∷ bound no_less (version 2 0 0) ∷ bound caret (version 1 0 0) ∷ bound at_most (version 1 9 9) ∷ []) s any
 
 pub the_input : TheInput
 unfolding box_text box_lines box wants computed

@@ -1,11 +1,12 @@
--- THE LIARS ARE CAUGHT: each wrong call that document 01 names answers something that its relation does not allow.
+-- THE LIARS ARE CAUGHT: each wrong call answers something that its relation does not allow.
 use mathlib.Core.Path.{◌≡◌, refl, ap, ◌∙◌}
 use mathlib.Core.List.{List, [], ◌∷◌}
 use mathlib.Core.Logic.{◌⊎◌, inl, inr}
 use Prim.Native.Nat.{ℕ}
 use native.Mathlib.Omega.{arith}
 use lib.ListN.{length}
-use Rattle.basis.specs.Rows.{GivesNone}
+use Rattle.std.specs.Prelude.{Ok}
+use Rattle.basis.specs.Rows.{GivesNone, number_of as refusal_number}
 use Rattle.basis.proofs.Rows.{gives_not_none, none_after}
 use Rattle.pacsolve.specs.declared.Cost.{Cost}
 use Rattle.pacsolve.specs.Plan.{Plan as APlan, plan, faults}
@@ -14,9 +15,8 @@ use Rattle.pacsolve.proofs.Conditions.{sound_faultless}
 use Rattle.pacsolve.proofs.Listing.{listing_one}
 use Rattle.catalogue.specs.Refusals.{rows}
 use Rattle.catalogue.specs.Gives.{cargo, problem}
-use Rattle.plan.specs.declared.Checked.TheVariants.{Sound}
 use Rattle.plan.specs.Check.{Checks}
-use Rattle.lister.specs.declared.Answer.{Answer}
+use Rattle.lister.specs.Answers.{Answer}
 use Rattle.lister.specs.declared.ListingRecord.{ListingRecord}
 use Rattle.lister.specs.Turns.{fresh, ended, Asks, the_first, the_next, turn_rows, Turns, refused, found}
 use Rattle.demands.specs.Claims.{costs}
@@ -67,26 +67,26 @@ module _ (r : ListingRecord) (buffer : List ℕ) (new : r.stage ≡ fresh) where
       asked (the_next e) none = omega arith
 
   moved : (buffer' : List ℕ) (a : Answer) → length buffer ≡ 1 → ¬ Turns tie r buffer a r buffer'
-  moved buffer' a one (refused {n = n} g e k b) =
-      gives_not_none (turn_rows tie r buffer) n g
+  moved buffer' a one (refused {f = f} g e k b) =
+      gives_not_none (turn_rows tie r buffer) (refusal_number f) g
       (none_after (rows tie (length buffer)) _ (tie_sane buffer one) ((λ h. omega arith), ((λ h. omega (arith, h.0)), (not_over, tt))))
   moved buffer' a one (found none asks l e k b) = let stage : r.stage ≡ 1 = ap (λ (s : ListingRecord). s.stage) k in omega arith
 
 -- the cost of plan 1 of the input is one only
-plan_1_cost : (c : Cost) (table : List ℕ) → Checks (box cargo) 59 table (Sound c) → c ≡ costs 3 4 1
+plan_1_cost : (c : Cost) (table : List ℕ) → Checks (box cargo) 59 table (Ok c) → c ≡ costs 3 4 1
 plan_1_cost c table x = demand_2.costed (box cargo) 59 table c x ∙ p_table.the_input.first_cost
 
 pub liars : Liars
 liars =
     record {
-      always_eleven = caught _ (λ right. let never : ◌≡◌ {A = ℕ} 0 1 = cc right.first in omega arith);
-      same_plan = λ set c. caught _ (λ right. let never : ◌≡◌ {A = ℕ} 3 5 = cc (right.first, right.second) in omega arith);
+      always_eleven = caught _ (λ right. cc right.first);
+      same_plan = λ l. caught _ (λ right. let never : ◌≡◌ {A = ℕ} 3 5 = cc in omega arith);
       moves_nothing = λ r buffer buffer' a new. moved r buffer new buffer' a;
-      repeating = caught _ (λ right. let never : ◌≡◌ {A = ℕ} 0 1 = cc right.third in omega arith);
-      ending = caught _ (λ right. let never : ◌≡◌ {A = ℕ} 0 1 = cc right.second in omega arith);
+      repeating = caught _ (λ right. cc right.third);
+      ending = caught _ (λ right. cc right.second);
       always_sound = λ c x.
-          let sound = ((demand_2.exactly plug_in with_plug_in.set with_plug_in.table (Sound c) x).0 (c, refl)).1 in
+          let sound = ((demand_2.exactly plug_in with_plug_in.set with_plug_in.table (Ok c) x).0 (c, refl)).1 in
           gives_not_none (faults (problem plug_in) with_plug_in) 2 excluded.plug_in_unreached (sound_faultless (problem plug_in) with_plug_in sound);
       invented_by_check = λ c other x. other (plan_1_cost c _ x);
-      invented_by_first = λ c buffer buffer' other x. other (plan_1_cost c buffer' (demand_2.by_first (box cargo) buffer buffer' 59 c x));
+      invented_by_first = λ c buffer buffer' other x. other (plan_1_cost c buffer' (demand_2.by_first (box cargo) buffer buffer' (record { set = 59; cost = c }) x));
     }

@@ -5,13 +5,16 @@ use native.Mathlib.Decide.{dec_lt}
 use native.Mathlib.Omega.{arith}
 use lib.ListN.{length, get_or}
 use lib.Seq.{ext_get_or}
+use Rattle.std.specs.Prelude.{List, Result, Ok, Err, IfOk}
+use Rattle.basis.specs.declared.Refusal.{Refusal}
+use Rattle.basis.specs.Rows.{number_of as refusal_number}
+use Rattle.basis.proofs.Refusals.{number_differs}
 use Rattle.basis.proofs.Rows.{gives_one, gives_not_none}
 use Rattle.bitset.proofs.Sets.{same_members}
 use Rattle.constraint.proofs.Outcome.{reading_one, reading_some}
-use Rattle.catalogue.specs.declared.Survey.{Survey}
 use Rattle.catalogue.specs.Tables.{Lent, slot_count}
 use Rattle.catalogue.specs.Refusals.{rows}
-use Rattle.catalogue.specs.Survey.{Surveys, refused, sane}
+use Rattle.catalogue.specs.Survey.{Indexes, Surveys, refused, sane}
 use Rattle.plan.proofs.Outcome.{check_one, check_some}
 use Rattle.lister.proofs.Outcome.{first_one, first_some, next_one, next_some}
 use Rattle.lister.proofs.TurnOutcome.{turn_one, turn_some}
@@ -47,19 +50,22 @@ one_outcome =
     }
 
 -- the sets of a survey are fixed by what they say of each slot, and 256 of them stand in it
-pub survey_one : (L : Lent) (room : ℕ) (a b : Survey) → length a.fits ≡ 256 → length b.fits ≡ 256 → Surveys L room a → Surveys L room b → a ≡ b
-survey_one L room a b size size' (refused g e) (refused h f) =
-    let number : a.number ≡ b.number = gives_one (rows L room) a.number b.number g h in
-    let fits : a.fits ≡ b.fits = e ∙ sym f in
-    λ i. record { number = number i; fits = fits i }
-survey_one L room a b size size' (refused g e) (sane none z x) = absurd (gives_not_none (rows L room) a.number g none)
-survey_one L room a b size size' (sane none z x) (refused g e) = absurd (gives_not_none (rows L room) b.number g none)
-survey_one L room a b size size' (sane none z x) (sane none' z' y) =
-    let number : a.number ≡ b.number = z ∙ sym z' in
-    let fits : a.fits ≡ b.fits = ext_get_or 0 a.fits b.fits (size ∙ sym size') (λ s h. slot s (dec_lt s (slot_count L))) in
-    λ i. record { number = number i; fits = fits i }
+indexed_one : (L : Lent) (f g : List ℕ) → length f ≡ 256 → length g ≡ 256 → Indexes L f → Indexes L g → f ≡ g
+indexed_one L f g size size' x y = ext_get_or 0 f g (size ∙ sym size') (λ s h. slot s (dec_lt s (slot_count L)))
   where
-    slot : (s : ℕ) → Dec (s < slot_count L) → get_or a.fits s 0 ≡ get_or b.fits s 0
+    slot : (s : ℕ) → Dec (s < slot_count L) → get_or f s 0 ≡ get_or g s 0
     slot s (yes h) =
-        same_members (get_or a.fits s 0) (get_or b.fits s 0) (λ e m. (y.members s h e).1 ((x.members s h e).0 m)) (λ e m. (x.members s h e).1 ((y.members s h e).0 m))
+        same_members (get_or f s 0) (get_or g s 0) (λ e m. (y.members s h e).1 ((x.members s h e).0 m)) (λ e m. (x.members s h e).1 ((y.members s h e).0 m))
     slot s (no h) = let past : slot_count L ≤ s = omega arith in x.beyond s past ∙ sym (y.beyond s past)
+
+-- a survey's sets are 256
+abbrev pub Full : Result (List ℕ) Refusal → Type 0
+Full a = IfOk a (λ fits. length fits ≡ 256)
+
+pub survey_one : (L : Lent) (room : ℕ) (a b : Result (List ℕ) Refusal) → Full a → Full b → Surveys L room a → Surveys L room b → a ≡ b
+survey_one L room a b size size' (refused {r = r} g e) (refused {r = s} h f) =
+    let same : r ≡ s = number_differs (gives_one (rows L room) (refusal_number r) (refusal_number s) g h) in cc
+survey_one L room a b size size' (refused {r = r} g e) (sane none z x) = absurd (gives_not_none (rows L room) (refusal_number r) g none)
+survey_one L room a b size size' (sane none z x) (refused {r = r} g e) = absurd (gives_not_none (rows L room) (refusal_number r) g none)
+survey_one L room a b size size' (sane {fits = f} none z x) (sane {fits = g} none' z' y) =
+    let same : f ≡ g = indexed_one L f g (rw z at size) (rw z' at size') x y in cc

@@ -5,10 +5,10 @@ use mathlib.Core.Path.{◌≡◌, refl}
 use Prim.Native.Nat.{ℕ, zero, suc, ◌+◌, ◌/◌, ◌%◌, ◌≤◌}
 use lib.Dec.{T, ltb, T_not}
 use lib.ListN.{length, get_or}
+use Rattle.std.specs.Prelude.{Ok}
 use Rattle.basis.specs.Bytes.{bytes}
 use Rattle.basis.proofs.Decide.{decides_by, decides_unit, decides_and, decides_or, decides_not, decides_eq, decides_lt, decides_le}
 use Rattle.constraint.specs.declared.Version.{Version}
-use Rattle.constraint.specs.declared.Reading.TheVariants.{Fits, Misfits}
 use Rattle.constraint.specs.Meaning.{Constraint, any, bound, both, either, depth}
 use Rattle.constraint.specs.Numeral.{Digit, value, Numeral}
 use Rattle.constraint.specs.Spelling.{sign, Spells, ReadAs}
@@ -101,8 +101,8 @@ reads part c t =
     let own = (own_tested part c).1.sure t in
     record { spelled = rw own.0 (spelled c own.1.0); shallow = own.1.1.0; short = own.1.1.1 }
 
-pub fits_by : (part : List ℕ) (v : Version) (c : Constraint) → T (reads? part c) → T (satisfied v c) → Answers part v Fits
+pub fits_by : (part : List ℕ) (v : Version) (c : Constraint) → T (reads? part c) → T (satisfied v c) → Answers part v (Ok true)
 fits_by part v c r s = fits (reads part c r) ((satisfied_decides v c).sure s) refl
 
-pub misfits_by : (part : List ℕ) (v : Version) (c : Constraint) → T (reads? part c) → T (not (satisfied v c)) → Answers part v Misfits
+pub misfits_by : (part : List ℕ) (v : Version) (c : Constraint) → T (reads? part c) → T (not (satisfied v c)) → Answers part v (Ok false)
 misfits_by part v c r s = misfits (reads part c r) (λ x. T_not (satisfied v c) s ((satisfied_decides v c).full x)) refl

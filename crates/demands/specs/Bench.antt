@@ -1,39 +1,36 @@
--- The P table: the examples of document 01, "Bench examples", that are marked P, as data and as claims about the definitions. Constraints and the input start from
--- their bytes; the other catalogues are the lent tables, five numbers per entry and four per slot.
-use Rattle.std.specs.Prelude.{◌≡◌, List, [], ◌∷◌, ◌++◌, ℕ, length, drop}
+-- The P table: worked examples, each under its line P, as data and as claims about the definitions. Constraints and the input start from their
+-- bytes; the other catalogues are the lent tables, five numbers per entry and four per slot.
+use Rattle.std.specs.Prelude.{◌≡◌, List, [], ◌∷◌, ◌++◌, ℕ, true, false, length, drop, Ok, Err}
 use Rattle.basis.specs.Bytes.{bytes}
-use Rattle.basis.specs.Rows.{refusal}
-use Rattle.constraint.specs.declared.Reading.TheVariants.{Fits, Misfits}
+use Rattle.basis.specs.declared.Refusal.TheVariants.{NoPlan}
 use Rattle.constraint.specs.Reading.{Answers}
 use Rattle.pacsolve.specs.Plan.{plan}
 use Rattle.pacsolve.specs.Cost.{cost}
 use Rattle.pacsolve.specs.Listing.{from_the_start, after, NoneLeft}
 use Rattle.catalogue.specs.Tables.{Lent, lent}
 use Rattle.catalogue.specs.Gives.{npm, cargo, pip, problem}
-use Rattle.lister.specs.declared.Answer.TheVariants.{Refused}
 use Rattle.lister.specs.Answers.{Firsts, Nexts}
 use Rattle.csv_text.specs.Layout.{Line, entry, slot, Lays}
 use Rattle.csv_text.specs.Says.{entry_table, slot_table}
-use Rattle.csv_text.specs.declared.Sheet.TheVariants.{Holds}
 use Rattle.csv_text.specs.Reading.{Reads}
 use Rattle.demands.specs.Claims.{version, costs, settings, forbidden, allowed, Yields}
 
 -- what the reading of a constraint answers for a version
 pub record CaretLines : Type 0 where
   -- P `(^ 0 0 3)`: 0.0.3 fits, 0.0.4 and 0.1.0 don't.
-  pub zero_zero_three_fits : Answers (bytes "(^ 0 0 3)") (version 0 0 3) Fits
-  pub zero_zero_three_later_patch : Answers (bytes "(^ 0 0 3)") (version 0 0 4) Misfits
-  pub zero_zero_three_later_minor : Answers (bytes "(^ 0 0 3)") (version 0 1 0) Misfits
+  pub zero_zero_three_fits : Answers (bytes "(^ 0 0 3)") (version 0 0 3) (Ok true)
+  pub zero_zero_three_later_patch : Answers (bytes "(^ 0 0 3)") (version 0 0 4) (Ok false)
+  pub zero_zero_three_later_minor : Answers (bytes "(^ 0 0 3)") (version 0 1 0) (Ok false)
   -- P `(^ 0 2 1)`: 0.2.5 fits, 0.2.0 and 0.3.0 don't.
-  pub zero_two_one_fits : Answers (bytes "(^ 0 2 1)") (version 0 2 5) Fits
-  pub zero_two_one_earlier_patch : Answers (bytes "(^ 0 2 1)") (version 0 2 0) Misfits
-  pub zero_two_one_later_minor : Answers (bytes "(^ 0 2 1)") (version 0 3 0) Misfits
+  pub zero_two_one_fits : Answers (bytes "(^ 0 2 1)") (version 0 2 5) (Ok true)
+  pub zero_two_one_earlier_patch : Answers (bytes "(^ 0 2 1)") (version 0 2 0) (Ok false)
+  pub zero_two_one_later_minor : Answers (bytes "(^ 0 2 1)") (version 0 3 0) (Ok false)
   -- P `(^ 1 2 3)`: 1.3.0 fits, 1.2.2 and 2.0.0 don't.
-  pub one_two_three_fits : Answers (bytes "(^ 1 2 3)") (version 1 3 0) Fits
-  pub one_two_three_earlier_patch : Answers (bytes "(^ 1 2 3)") (version 1 2 2) Misfits
-  pub one_two_three_later_major : Answers (bytes "(^ 1 2 3)") (version 2 0 0) Misfits
+  pub one_two_three_fits : Answers (bytes "(^ 1 2 3)") (version 1 3 0) (Ok true)
+  pub one_two_three_earlier_patch : Answers (bytes "(^ 1 2 3)") (version 1 2 2) (Ok false)
+  pub one_two_three_later_major : Answers (bytes "(^ 1 2 3)") (version 2 0 0) (Ok false)
 
--- the input of document 01, "The text and the program"
+-- the input: a catalogue of six entries as text
 unfoldable pub box_text : List ℕ
 box_text =
     bytes "package,version,weight,needs,constraint\r\n"
@@ -74,7 +71,7 @@ pub record TheInput : Type 0 where
   pub lays : Lays box_text box_lines
   -- read fills lent tables of 320 and 1024 numbers with what the lines say: 6 entries, 5 slots
   pub read : (entries slots : List ℕ) → length entries ≡ 320 → length slots ≡ 1024
-      → Reads box_text entries slots (Holds 6 5) (entry_table box_lines ++ drop 30 entries) (slot_table box_lines ++ drop 20 slots)
+      → Reads box_text entries slots (Ok (record { entries = 6; slots = 5 })) (entry_table box_lines ++ drop 30 entries) (slot_table box_lines ++ drop 20 slots)
   -- P The input above: plan 1 is set 59, table 1 3 4 255 5, cost 3 4 1; plan 2 is set 45, table 2 3 255 5 5, cost 8 3 0.
   pub plans : Yields (box cargo) 5 (plan 59 (1 ∷ 3 ∷ 4 ∷ 255 ∷ 5 ∷ []) ∷ plan 45 (2 ∷ 3 ∷ 255 ∷ 5 ∷ 5 ∷ []) ∷ [])
   pub first_cost : cost (problem (box cargo)) 59 ≡ costs 3 4 1
@@ -112,7 +109,7 @@ pub record RootAlone : Type 0 where
   -- P A catalogue of the root alone, no slots: one plan, empty table, then 11.
   pub plans : Yields alone 0 (plan 1 [] ∷ [])
   pub none_after : NoneLeft (problem alone) (after (plan 1 []))
-  pub then_eleven : Nexts alone 1 [] (Refused (refusal 11)) []
+  pub then_eleven : Nexts alone 1 [] (Err NoPlan) []
 
 -- a root whose one slot wants package 1, of which there is no entry
 unfoldable pub unmet : Lent
@@ -122,7 +119,7 @@ pub record NeedUnmet : Type 0 where
   -- P The root needs a package without entries: 11 at once.
   pub plans : Yields unmet 1 []
   pub none_at_all : NoneLeft (problem unmet) from_the_start
-  pub eleven_at_once : (byte : ℕ) → Firsts unmet (byte ∷ []) (Refused (refusal 11)) (byte ∷ [])
+  pub eleven_at_once : (byte : ℕ) → Firsts unmet (byte ∷ []) (Err NoPlan) (byte ∷ [])
 
 -- THE TABLE: all examples marked P
 pub record PTable : Type 0 where

@@ -1,4 +1,4 @@
--- Document 01, "Errors of reasoning to exclude": for each error a small catalogue on which the wrong reading would give something else than the definitions do.
+-- Errors of reasoning to exclude: for each a small catalogue on which the wrong reading would give something else than the definitions do.
 -- Entry 0 is the root, of package 0 and version 1.0.0; most constraints are `*`, the text's first byte.
 use Rattle.std.specs.Prelude.{◌≡◌, [], ◌∷◌, ℕ}
 use Rattle.basis.specs.Bytes.{bytes}

@@ -1,13 +1,13 @@
 -- What it is for a call to have exactly one outcome, and to refuse by its rows; and that each public call has one outcome for every input.
-use Rattle.std.specs.Prelude.{◌≡◌, List, ℕ}
+use Rattle.std.specs.Prelude.{◌≡◌, List, ℕ, Result}
+use Rattle.basis.specs.declared.Refusal.{Refusal}
 use Rattle.basis.specs.Rows.{Row, Gives, GivesNone}
 use Rattle.constraint.specs.declared.Version.{Version}
 use Rattle.constraint.specs.Reading.{Answers}
 use Rattle.catalogue.specs.Tables.{Lent}
 use Rattle.plan.specs.Check.{Checks}
-use Rattle.lister.specs.declared.Answer.{Answer}
 use Rattle.lister.specs.declared.ListingRecord.{ListingRecord}
-use Rattle.lister.specs.Answers.{Firsts, Nexts}
+use Rattle.lister.specs.Answers.{Answer, Firsts, Nexts}
 use Rattle.lister.specs.Turns.{Turns}
 use Rattle.csv_text.specs.declared.Sheet.{Sheet}
 use Rattle.csv_text.specs.Reading.{Reads}
@@ -24,7 +24,7 @@ pub record OneOutcome : Type 0 where
   pub first : (L : Lent) (buffer : List ℕ) → One (λ (o : Answer × List ℕ). Firsts L buffer o.0 o.1)
   pub next : (L : Lent) (set : ℕ) (buffer : List ℕ) → One (λ (o : Answer × List ℕ). Nexts L set buffer o.0 o.1)
   pub turn : (L : Lent) (r : ListingRecord) (buffer : List ℕ) → One (λ (o : Answer × ListingRecord × List ℕ). Turns L r buffer o.0 o.1 o.2)
-  pub read : (text entries slots : List ℕ) → One (λ (o : Sheet × List ℕ × List ℕ). Reads text entries slots o.0 o.1 o.2)
+  pub read : (text entries slots : List ℕ) → One (λ (o : Result Sheet Refusal × List ℕ × List ℕ). Reads text entries slots o.0 o.1 o.2)
 
 -- a call refuses by rows: where one applies, the number is that of the first that does, and what Keeps says holds; where none applies, the number is 0
 pub record RefusesBy (rs : List Row) (number : ℕ) (Keeps : ℕ → Type 0) : Type 0 where

@@ -1,4 +1,4 @@
--- The output that document 01 shows beside its input ("The text and the program").
+-- The output that belongs to the example's text, byte by byte.
 use Rattle.std.specs.Prelude.{List, ◌++◌, ℕ}
 use Rattle.basis.specs.Bytes.{bytes}
 use Rattle.report.specs.Output.{Prints}

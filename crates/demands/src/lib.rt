@@ -1,2 +1,2 @@
-// The examples and the demands of document 01 are theorems: see specs/ and proofs/.
+// The worked examples and the demands on all calls together are theorems: see specs/ and proofs/.
 #![tactic(auto)]

@@ -5,7 +5,11 @@ use mathlib.Core.List.{List, [], ◌∷◌}
 use mathlib.Core.Logic.{inl, inr}
 use Prim.Native.Nat.{ℕ, suc}
 use lib.ListN.{length}
-use Rattle.basis.specs.Rows.{Gives, GivesNone, refusal}
+use Rattle.std.specs.Prelude.{Err}
+use Rattle.basis.specs.declared.Refusal.{Refusal}
+use Rattle.basis.specs.declared.Refusal.TheVariants.{NoPlan}
+use Rattle.basis.specs.Rows.{Gives, GivesNone, number_of as refusal_number}
+use Rattle.basis.proofs.Refusals.{number_differs}
 use Rattle.basis.proofs.Rows.{gives_one, gives_not_none, gives_after, none_after}
 use Rattle.pacsolve.specs.Plan.{Plan as APlan, plan, Sound}
 use Rattle.pacsolve.specs.Cost.{cost}
@@ -17,9 +21,7 @@ use Rattle.catalogue.specs.Tables.{Lent, slot_count}
 use Rattle.catalogue.specs.Refusals.{rows}
 use Rattle.catalogue.specs.Gives.{problem}
 use Rattle.catalogue.proofs.Sane.{sane, right_room}
-use Rattle.lister.specs.declared.Answer.{Answer}
-use Rattle.lister.specs.declared.Answer.TheVariants.{Refused}
-use Rattle.lister.specs.Answers.{given, ask_rows, Lists, refused, found}
+use Rattle.lister.specs.Answers.{Answer, given, ask_rows, Lists, refused, found}
 use Rattle.lister.specs.Asking.{Asking, Closes, Follow, FollowedBy11}
 use Rattle.lister.proofs.Outcome.{computed}
 
@@ -40,14 +42,14 @@ module _ (L : Lent) where
   module _ (q : Asked) (buffer : List ℕ) (g : GivesNone (rows L (length buffer))) (b : Backed q) (a : Answer) (x : List ℕ) where
     -- where a plan is left, the answer is the least
     pub answers_least : (P : APlan) → Least (problem L) q P → Lists L q buffer a x → (a ≡ given L P) × (x ≡ P.table)
-    answers_least P l (refused {n = n} h e k) =
-        absurd (gives_not_none (ask_rows L (length buffer) q) n h (ask_none (length buffer) q g b (least_or_none_left (problem L) l)))
+    answers_least P l (refused {r = r} h e k) =
+        absurd (gives_not_none (ask_rows L (length buffer) q) (refusal_number r) h (ask_none (length buffer) q g b (least_or_none_left (problem L) l)))
     answers_least P l (found {P = Q} h m e k) = let same : Q ≡ P = least_is_one (problem L) m l in (cc, cc)
 
     -- where none is left, it is 11
-    pub answers_none : NoneLeft (problem L) q → Lists L q buffer a x → (a ≡ Refused (refusal 11)) × (x ≡ buffer)
-    answers_none n (refused {n = m} h e k) =
-        let same : m ≡ 11 = gives_one (ask_rows L (length buffer) q) m 11 h (ask_eleven (length buffer) q g b n) in (cc, k)
+    pub answers_none : NoneLeft (problem L) q → Lists L q buffer a x → (a ≡ Err NoPlan) × (x ≡ buffer)
+    answers_none n (refused {r = r} h e k) =
+        let same : r ≡ NoPlan = number_differs (gives_one (ask_rows L (length buffer) q) (refusal_number r) 11 h (ask_eleven (length buffer) q g b n)) in (cc, k)
     answers_none n (found h m e k) = absurd (least_or_none_left (problem L) m n)
 
   -- the buffer that a plan overwrote has the right size for the next call
@@ -69,7 +71,7 @@ module _ (L : Lent) where
     follow (P ∷ Ps) q i o b g l =
         let least : Least (problem L) q P = onward_head (problem L) o in
         let z = answers_least q (buffers i) g b (answers i) (buffers (suc i)) P least l in
-        let next = rw (given_back P (buffers (suc i)) z.1) at (asking.next i P.set (cost (problem L) P.set) z.0) in (
+        let next = rw (given_back P (buffers (suc i)) z.1) at (asking.next i (record { set = P.set; cost = cost (problem L) P.set }) z.0) in (
           record { answer = z.0; buffer = z.1 },
           follow Ps (after P) (suc i) (onward_tail (problem L) o) least.good.sound (still_sane P (buffers i) (buffers (suc i)) g least z.1) next,
         )

@@ -4,9 +4,12 @@ use mathlib.Core.List.{List}
 use mathlib.Core.Logic.{◌⊎◌, inl, inr}
 use Prim.Native.Nat.{ℕ}
 use lib.ListN.{length}
-use Rattle.basis.specs.Rows.{Gives, GivesNone, refusal}
+use Rattle.std.specs.Prelude.{Err}
+use Rattle.basis.specs.declared.Refusal.{Refusal}
+use Rattle.basis.specs.Rows.{Gives, GivesNone, number_of as refusal_number}
 use Rattle.basis.proofs.Decide.{decided, not_or_not}
-use Rattle.basis.proofs.Rows.{Settled, gives_one, gives_not_none, gives_some, none_before, settled_append}
+use Rattle.basis.proofs.Refusals.{number_differs, gives_refusal}
+use Rattle.basis.proofs.Rows.{Settled, gives_one, gives_not_none, none_before, settled_append}
 use Rattle.pacsolve.specs.Problem.{Problem}
 use Rattle.pacsolve.specs.Plan.{Plan as APlan, plan}
 use Rattle.pacsolve.specs.Listing.{Asked, from_the_start, after, Least, NoneLeft}
@@ -19,9 +22,8 @@ use Rattle.catalogue.specs.Gives.{problem}
 use Rattle.catalogue.proofs.Settled.{rows_settled}
 use Rattle.catalogue.proofs.Sane.{sane}
 use Rattle.catalogue.proofs.Computed.{computes}
-use Rattle.lister.specs.declared.Answer.{Answer}
-use Rattle.lister.specs.declared.Answer.TheVariants.{Refused}
-use Rattle.lister.specs.Answers.{given, ask_rows, Lists, refused, found, Firsts, Nexts}
+use Rattle.lister.specs.Answers.{Answer, given, ask_rows, Lists, refused, found, Firsts, Nexts}
+use Rattle.lister.proofs.Numbered.{ask_numbered}
 
 -- a catalogue that is not refused computes
 pub computed : (L : Lent) (room : ℕ) → GivesNone (rows L room) → Computes (problem L)
@@ -62,17 +64,17 @@ module _ (L : Lent) (room : ℕ) where
 
 module _ (L : Lent) (q : Asked) (buffer : List ℕ) where
   lists_one : (a b : Answer) (x y : List ℕ) → Lists L q buffer a x → Lists L q buffer b y → (a ≡ b) × (x ≡ y)
-  lists_one a b x y (refused {n = m} g e k) (refused {n = n} h f l) =
-      let same = gives_one (ask_rows L (length buffer) q) m n g h in (cc, cc)
-  lists_one a b x y (refused {n = n} g e k) (found h s f l) = absurd (gives_not_none (ask_rows L (length buffer) q) n g h)
-  lists_one a b x y (found g s e k) (refused {n = n} h f l) = absurd (gives_not_none (ask_rows L (length buffer) q) n h g)
+  lists_one a b x y (refused {r = r} g e k) (refused {r = s} h f l) =
+      let same : r ≡ s = number_differs (gives_one (ask_rows L (length buffer) q) (refusal_number r) (refusal_number s) g h) in (cc, cc)
+  lists_one a b x y (refused {r = r} g e k) (found h s f l) = absurd (gives_not_none (ask_rows L (length buffer) q) (refusal_number r) g h)
+  lists_one a b x y (found g s e k) (refused {r = r} h f l) = absurd (gives_not_none (ask_rows L (length buffer) q) (refusal_number r) h g)
   lists_one a b x y (found g s e k) (found h t f l) = let same = least_is_one (problem L) s t in (cc, cc)
 
   lists_some : (a : Answer) × (x : List ℕ) × Lists L q buffer a x
-  lists_some = go (gives_some (ask_rows L (length buffer) q) (ask_settled L (length buffer) q))
+  lists_some = go (gives_refusal (ask_rows L (length buffer) q) (ask_numbered L (length buffer) q) (ask_settled L (length buffer) q))
     where
-      go : ((n : ℕ) × Gives (ask_rows L (length buffer) q) n) ⊎ GivesNone (ask_rows L (length buffer) q) → (a : Answer) × (x : List ℕ) × Lists L q buffer a x
-      go (inl r) = (Refused (refusal r.0), buffer, refused r.1 refl refl)
+      go : ((r : Refusal) × Gives (ask_rows L (length buffer) q) (refusal_number r)) ⊎ GivesNone (ask_rows L (length buffer) q) → (a : Answer) × (x : List ℕ) × Lists L q buffer a x
+      go (inl r) = (Err r.0, buffer, refused r.1 refl refl)
       go (inr g) =
           let c = computed L (length buffer) (ask_sane L (length buffer) q g) in
           let l = some_left (problem L) c q (ask_left L (length buffer) q g) in

@@ -1,31 +1,27 @@
 -- What a survey or an asking, and the record moved on by its answer, say together is what a turn may answer.
-use mathlib.Core.Path.{◌≡◌, refl, sym, ap, ◌∙◌, subst}
-use mathlib.Core.Bool.{Bool}
+use mathlib.Core.Path.{◌≡◌, refl, ap, ◌∙◌}
 use mathlib.Core.List.{List, [], ◌∷◌, ◌++◌}
 use mathlib.Core.Logic.{◌⊎◌, inl, inr}
 use Prim.Native.Nat.{ℕ, ◌≤◌, ◌<◌}
-use native.Mathlib.Decide.{ℕ_discrete}
 use native.Mathlib.Omega.{arith}
-use lib.Dec.{eqb}
 use lib.ListN.{length}
-use borrow.Author.Tests.{eq-eqb, ne_eqb}
-use Rattle.basis.specs.Rows.{Row, row, Gives, GivesNone, refusal}
+use Rattle.std.specs.Prelude.{Ok, Err}
+use Rattle.basis.specs.declared.Refusal.{Refusal}
+use Rattle.basis.specs.declared.Refusal.TheVariants.{Stage, NoPlan}
+use Rattle.basis.specs.Rows.{Row, row, Gives, GivesNone, number_of as refusal_number}
 use Rattle.basis.proofs.Rows.{gives_before, gives_after, none_before, none_after}
 use Rattle.pacsolve.specs.Plan.{Plan as APlan, plan, Sound}
 use Rattle.pacsolve.specs.Listing.{Asked, from_the_start, after, Least, NoneLeft}
 use Rattle.pacsolve.proofs.Fixed.{least_or_none_left}
-use Rattle.catalogue.specs.declared.Survey.{Survey}
 use Rattle.catalogue.specs.Tables.{Lent}
 use Rattle.catalogue.specs.Refusals.{rows}
 use Rattle.catalogue.specs.Gives.{problem}
 use Rattle.catalogue.specs.Survey.{Surveys}
-use Rattle.node.specs.Sought.{asked_if}
-use Rattle.lister.specs.declared.Answer.{Answer}
-use Rattle.lister.specs.declared.Answer.TheVariants.{Refused, Plan}
+use Rattle.pacsolve.specs.declared.Listed.{Listed}
 use Rattle.lister.specs.declared.ListingRecord.{ListingRecord}
-use Rattle.lister.specs.Answers.{ask_rows, Lists, refused as ask_refused, found as ask_found}
-use Rattle.lister.specs.Turns.{running, ended, listing, Asks, the_first, the_next, turn_rows, Kept, Turns, refused, found, MovesOn, refused_with, given_plan, Closing}
-use Rattle.lister.proofs.Asks.{survey_gives, survey_none}
+use Rattle.lister.specs.Answers.{Answer, ask_rows, Lists, refused as ask_refused, found as ask_found}
+use Rattle.lister.specs.Turns.{running, ended, listing, Asks, the_first, the_next, turn_rows, Kept, Turns, refused, found, MovesOn, refused_with, given_plan, Closing, TurnAnswers, asked, past_running}
+use Rattle.lister.proofs.Asks.{survey_gives, survey_sane}
 use Rattle.lister.proofs.TurnOutcome.{asks_one, ended_asks_nothing}
 
 -- a number of rows after rows is given by the first, or by the second where the first give none
@@ -39,35 +35,37 @@ parted (r ∷ rs) ss n (inr g) = go (parted rs ss n g.1)
     go (inr x) = inr ((g.0, x.0), x.1)
 
 -- a record past running: what the survey, the stage and nothing else refuse it with
-pub closing_by : (L : Lent) (room stage : ℕ) (a : Survey) → Surveys L room a → ¬ (a.number ≡ 0) → Closing L room stage a.number
-closing_by L room stage a s n = record { gives = λ h. gives_before (rows L room) _ a.number (survey_gives L room a s n) }
+module _ (L : Lent) (room stage : ℕ) where
+  pub closing_by : {f : Refusal} → Surveys L room (Err f) → Closing L room stage f
+  closing_by {f} s = record { gives = λ h. gives_before (rows L room) _ (refusal_number f) (survey_gives L room s) }
 
-pub closing_nine : (L : Lent) (room stage : ℕ) (a : Survey) → Surveys L room a → a.number ≡ 0 → ended < stage → Closing L room stage 9
-closing_nine L room stage a s e h = record { gives = λ k. gives_after (rows L room) _ 9 (survey_none L room a s e) (inl (h, refl)) }
+  pub closing_nine : {fits : List ℕ} → Surveys L room (Ok fits) → ended < stage → Closing L room stage Stage
+  closing_nine s h = record { gives = λ k. gives_after (rows L room) _ 9 (survey_sane L room s).0 (inl (h, refl)) }
 
-pub closing_eleven : (L : Lent) (room stage : ℕ) (a : Survey) → Surveys L room a → a.number ≡ 0 → stage ≤ ended → Closing L room stage 11
-closing_eleven L room stage a s e h =
-    record { gives = λ k. gives_after (rows L room) _ 11 (survey_none L room a s e) (inr ((λ m. omega arith), inl (omega arith, refl))) }
+  pub closing_eleven : {fits : List ℕ} → Surveys L room (Ok fits) → stage ≤ ended → Closing L room stage NoPlan
+  closing_eleven s h =
+      record { gives = λ k. gives_after (rows L room) _ 11 (survey_sane L room s).0 (inr ((λ m. omega arith), inl (omega arith, refl))) }
 
--- the record moved on by a refusal
-kept_of : {r r' : ListingRecord} (n : ℕ) → MovesOn r (Refused (refusal n)) r' → Kept r n r'
-kept_of {r} {r'} n (refused_with {f = f} e k) = let its : n ≡ f.number = ap number_of e in rw its k
-  where
-    number_of : Answer → ℕ
-    number_of (Refused g) = g.number
-    number_of (Plan set c) = 0
-kept_of n (given_plan e k) = let no_such : ◌≡◌ {A = ℕ} 0 1 = cc in absurd (omega arith)
+-- the record moved on by a refusal, and by a plan
+kept_of : {r r' : ListingRecord} (f : Refusal) → MovesOn r (Err f) r' → Kept r (refusal_number f) r'
+kept_of f (refused_with {f = g} e k) = let its : f ≡ g = cc in rw its k
+kept_of f (given_plan e k) = absurd (cc)
+
+moved_of : {r r' : ListingRecord} (l : Listed) → MovesOn r (Ok l) r' → r' ≡ listing running l.set
+moved_of l (refused_with e k) = absurd (cc)
+moved_of l (given_plan {l = m} e k) = let its : l ≡ m = cc in rw its k
 
 module _ (L : Lent) (r : ListingRecord) (buffer : List ℕ) where
-  pub turned_closed : running < r.stage → (n : ℕ) → Closing L (length buffer) r.stage n → (r' : ListingRecord) → MovesOn r (Refused (refusal n)) r'
-      → Turns L r buffer (Refused (refusal n)) r' buffer
-  turned_closed h n c r' m = refused (go (parted (rows L (length buffer)) _ n (c.gives h))) refl (kept_of n m) refl
+  turned_closed : running < r.stage → (f : Refusal) → Closing L (length buffer) r.stage f → (r' : ListingRecord) → MovesOn r (Err f) r'
+      → Turns L r buffer (Err f) r' buffer
+  turned_closed h f c r' m = refused (go (refusal_number f) (parted (rows L (length buffer)) _ (refusal_number f) (c.gives h))) refl (kept_of f m) refl
     where
-      go : Gives (rows L (length buffer)) n ⊎ (GivesNone (rows L (length buffer)) × Gives (row 9 (ended < r.stage) ∷ row 11 (r.stage ≡ ended) ∷ []) n) → Gives (turn_rows L r buffer) n
-      go (inl g) = gives_before (rows L (length buffer)) _ n g
-      go (inr (g, inl x)) = gives_after (rows L (length buffer)) _ n g (inl x)
-      go (inr (g, inr (x, inl y))) = gives_after (rows L (length buffer)) _ n g (inr (x, inr ((λ z. omega (arith, z.0)), inl (inl y.0, y.1))))
-      go (inr (g, inr (x, inr (y, z)))) = absurd z
+      go : (n : ℕ) → Gives (rows L (length buffer)) n ⊎ (GivesNone (rows L (length buffer)) × Gives (row 9 (ended < r.stage) ∷ row 11 (r.stage ≡ ended) ∷ []) n)
+          → Gives (turn_rows L r buffer) n
+      go n (inl g) = gives_before (rows L (length buffer)) _ n g
+      go n (inr (g, inl x)) = gives_after (rows L (length buffer)) _ n g (inl x)
+      go n (inr (g, inr (x, inl y))) = gives_after (rows L (length buffer)) _ n g (inr (x, inr ((λ z. omega (arith, z.0)), inl (inl y.0, y.1))))
+      go n (inr (g, inr (x, inr (y, z)))) = absurd z
 
   -- what a record asks for is refused as asking is
   asked_gives : {q : Asked} → Asks r buffer q → (n : ℕ) → Gives (ask_rows L (length buffer) q) n → Gives (turn_rows L r buffer) n
@@ -111,29 +109,12 @@ module _ (L : Lent) (r : ListingRecord) (buffer : List ℕ) where
       no_eleven (inl e) = ended_asks_nothing r buffer e k
       no_eleven (inr x) = least_or_none_left (problem L) l (rw (asks_one r buffer x.1 k) at x.2)
 
-  set_joined : Answer → ℕ
-  set_joined (Refused f) = 0
-  set_joined (Plan set c) = set
-
-  pub turned_asked : (q : Asked) → Asks r buffer q → (a : Answer) (buffer' : List ℕ) → Lists L q buffer a buffer' → (r' : ListingRecord) → MovesOn r a r'
+  turned_asked : (q : Asked) → Asks r buffer q → (a : Answer) (buffer' : List ℕ) → Lists L q buffer a buffer' → (r' : ListingRecord) → MovesOn r a r'
       → Turns L r buffer a r' buffer'
-  unfolding set_joined
-  turned_asked q k a buffer' (ask_refused {n = n} g e f) r' m = refused (asked_gives k n g) e (kept_of n (rw e at m)) f
-  turned_asked q k a buffer' (ask_found {P = P} g l e f) r' m = found (asked_none_gives k g l) k l e (moved m) f
-    where
-      moved : MovesOn r a r' → r' ≡ listing running P.set
-      moved (refused_with x y) = let no_such : ◌≡◌ {A = ℕ} 0 1 = cc in absurd (omega arith)
-      moved (given_plan {set = s} x y) = let its : s ≡ P.set = ap set_joined (sym x ∙ e) in y ∙ ap (listing running) its
+  turned_asked q k a buffer' (ask_refused {r = f} g e b) r' m = refused (asked_gives k (refusal_number f) g) e (kept_of f (rw e at m)) b
+  turned_asked q k a buffer' (ask_found g l e b) r' m = found (asked_none_gives k g l) k l e (moved_of _ (rw e at m)) b
 
-  -- by a test of the stage
-  pub turned_by_stage : r.stage ≤ 1 → (a : Answer) (buffer' : List ℕ) → Lists L (asked_if (eqb r.stage 1) (plan r.last buffer)) buffer a buffer'
-      → (r' : ListingRecord) → MovesOn r a r' → Turns L r buffer a r' buffer'
-  turned_by_stage h a buffer' l r' m = go (ℕ_discrete r.stage 1)
-    where
-      go : Dec (r.stage ≡ 1) → Turns L r buffer a r' buffer'
-      go (yes e) =
-          turned_asked (after (plan r.last buffer)) (the_next e) a buffer'
-          (subst (λ (b : Bool). Lists L (asked_if b (plan r.last buffer)) buffer a buffer') (eq-eqb r.stage 1 e) l) r' m
-      go (no n) =
-          turned_asked from_the_start (the_first (omega arith)) a buffer'
-          (subst (λ (b : Bool). Lists L (asked_if b (plan r.last buffer)) buffer a buffer') (ne_eqb r.stage 1 n) l) r' m
+  -- the answer of a turn, and the record moved on by it
+  pub turned_on : (a : Answer) (buffer' : List ℕ) → TurnAnswers L r buffer a buffer' → (r' : ListingRecord) → MovesOn r a r' → Turns L r buffer a r' buffer'
+  turned_on a buffer' (asked {q = q} k l) r' m = turned_asked q k a buffer' l r' m
+  turned_on a buffer' (past_running {f = f} h c e b) r' m = rw (e, b) (turned_closed h f c r' (rw e at m))

@@ -6,9 +6,12 @@ use Prim.Native.Nat.{ℕ, ◌<◌}
 use native.Mathlib.Decide.{ℕ_discrete, dec_lt}
 use native.Mathlib.Omega.{arith}
 use lib.ListN.{length}
-use Rattle.basis.specs.Rows.{Gives, GivesNone, refusal}
+use Rattle.std.specs.Prelude.{Err}
+use Rattle.basis.specs.declared.Refusal.{Refusal}
+use Rattle.basis.specs.Rows.{Gives, GivesNone, number_of as refusal_number}
 use Rattle.basis.proofs.Decide.{decided, both_or_not, not_or_not}
-use Rattle.basis.proofs.Rows.{Settled, gives_one, gives_not_none, gives_some, none_before, settled_append}
+use Rattle.basis.proofs.Refusals.{number_differs, gives_refusal}
+use Rattle.basis.proofs.Rows.{Settled, gives_one, gives_not_none, none_before, settled_append}
 use Rattle.pacsolve.specs.Plan.{plan}
 use Rattle.pacsolve.specs.Listing.{Asked, from_the_start, after, NoneLeft}
 use Rattle.pacsolve.proofs.Conditions.{Computes, sound_decides}
@@ -17,11 +20,10 @@ use Rattle.catalogue.specs.Tables.{Lent}
 use Rattle.catalogue.specs.Refusals.{rows}
 use Rattle.catalogue.specs.Gives.{problem}
 use Rattle.catalogue.proofs.Settled.{rows_settled}
-use Rattle.lister.specs.declared.Answer.{Answer}
-use Rattle.lister.specs.declared.Answer.TheVariants.{Refused}
 use Rattle.lister.specs.declared.ListingRecord.{ListingRecord}
-use Rattle.lister.specs.Answers.{given}
+use Rattle.lister.specs.Answers.{Answer, given}
 use Rattle.lister.specs.Turns.{fresh, running, ended, listing, Asks, the_first, the_next, turn_rows, Kept, closed, left, Turns, refused, found}
+use Rattle.lister.proofs.Numbered.{turn_numbered}
 use Rattle.lister.proofs.Outcome.{computed, none_left_or_not, some_left}
 
 kept_one : {r : ListingRecord} {n : ℕ} {s t : ListingRecord} → Kept r n s → Kept r n t → s ≡ t
@@ -92,16 +94,16 @@ module _ (L : Lent) (r : ListingRecord) (buffer : List ℕ) where
       ))
 
   pub turn_one : (a b : Answer) (s t : ListingRecord) (x y : List ℕ) → Turns L r buffer a s x → Turns L r buffer b t y → (a ≡ b) × (s ≡ t) × (x ≡ y)
-  turn_one a b s t x y (refused {n = m} g e k u) (refused {n = n} h f l v) =
-      let same : m ≡ n = gives_one (turn_rows L r buffer) m n g h in (cc, kept_one (rw same at k) l, cc)
-  turn_one a b s t x y (refused {n = n} g e k u) (found h c l f w v) = absurd (gives_not_none (turn_rows L r buffer) n g h)
-  turn_one a b s t x y (found g c l e w u) (refused {n = n} h f k v) = absurd (gives_not_none (turn_rows L r buffer) n h g)
+  turn_one a b s t x y (refused {f = m} g e k u) (refused {f = n} h f l v) =
+      let same : m ≡ n = number_differs (gives_one (turn_rows L r buffer) (refusal_number m) (refusal_number n) g h) in (cc, kept_one (rw same at k) l, cc)
+  turn_one a b s t x y (refused {f = m} g e k u) (found h c l f w v) = absurd (gives_not_none (turn_rows L r buffer) (refusal_number m) g h)
+  turn_one a b s t x y (found g c l e w u) (refused {f = n} h f k v) = absurd (gives_not_none (turn_rows L r buffer) (refusal_number n) h g)
   turn_one a b s t x y (found {q = q} {P = P} g c l e w u) (found {P = Q} h d m f z v) =
       let same : P ≡ Q = least_is_one (problem L) l (rw (asks_one r buffer d c) at m) in (cc, cc, cc)
 
   pub turn_some : (a : Answer) × (s : ListingRecord) × (x : List ℕ) × Turns L r buffer a s x
   unfolding Over
-  turn_some = go (gives_some (turn_rows L r buffer) turn_settled)
+  turn_some = go (gives_refusal (turn_rows L r buffer) (turn_numbered L r buffer) turn_settled)
     where
       Outcome : Type 0
       Outcome = (a : Answer) × (s : ListingRecord) × (x : List ℕ) × Turns L r buffer a s x
@@ -112,8 +114,8 @@ module _ (L : Lent) (r : ListingRecord) (buffer : List ℕ) where
           let l = some_left (problem L) c k.0 (λ m. n (inr (k.0, k.1, m))) in
           (given L l.0, listing running l.0.set, l.0.table, found g k.1 l.1 refl refl refl)
 
-      go : ((n : ℕ) × Gives (turn_rows L r buffer) n) ⊎ GivesNone (turn_rows L r buffer) → Outcome
-      go (inl z) = let k = kept_some r z.0 in (Refused (refusal z.0), k.0, buffer, refused z.1 refl k.1 refl)
+      go : ((f : Refusal) × Gives (turn_rows L r buffer) (refusal_number f)) ⊎ GivesNone (turn_rows L r buffer) → Outcome
+      go (inl z) = let k = kept_some r (refusal_number z.0) in (Err z.0, k.0, buffer, refused z.1 refl k.1 refl)
       go (inr g) =
           let parts = none_before (rows L (length buffer)) _ g in
           asked g (computed L (length buffer) parts.0) parts.1.1.1.0 (ended_or_asks r buffer parts.1.0)

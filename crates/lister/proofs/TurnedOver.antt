@@ -6,7 +6,10 @@ use Prim.Native.Nat.{ℕ, suc, ◌≤◌, ◌<◌}
 use native.Mathlib.Decide.{ℕ_discrete, le_ind}
 use native.Mathlib.Omega.{arith}
 use lib.ListN.{length}
-use Rattle.basis.specs.Rows.{GivesNone, refusal}
+use Rattle.std.specs.Prelude.{Err}
+use Rattle.basis.specs.declared.Refusal.TheVariants.{NoPlan}
+use Rattle.basis.specs.Rows.{GivesNone, number_of as refusal_number}
+use Rattle.basis.proofs.Refusals.{number_differs}
 use Rattle.basis.proofs.Rows.{gives_one, gives_not_none, gives_after, none_after}
 use Rattle.pacsolve.specs.Plan.{Plan as APlan, plan, Sound}
 use Rattle.pacsolve.specs.Listing.{Listing, Asked, from_the_start, after, Least, NoneLeft}
@@ -16,10 +19,8 @@ use Rattle.pacsolve.proofs.Enumerated.{listed, listing_exists}
 use Rattle.catalogue.specs.Tables.{Lent}
 use Rattle.catalogue.specs.Refusals.{rows}
 use Rattle.catalogue.specs.Gives.{problem}
-use Rattle.lister.specs.declared.Answer.{Answer}
-use Rattle.lister.specs.declared.Answer.TheVariants.{Refused}
 use Rattle.lister.specs.declared.ListingRecord.{ListingRecord}
-use Rattle.lister.specs.Answers.{given}
+use Rattle.lister.specs.Answers.{Answer, given}
 use Rattle.lister.specs.Turns.{running, ended, listing, Asks, the_first, the_next, turn_rows, Kept, closed, left, Turns, refused, found}
 use Rattle.lister.specs.Asking.{Turning, Closes, Follow, EndedFrom, FollowedBy11s}
 use Rattle.lister.proofs.Outcome.{computed}
@@ -44,8 +45,8 @@ module _ (L : Lent) (r : ListingRecord) (buffer : List ℕ) where
     -- the turn hands out the least plan that the record asks for
     turns_least : (q : Asked) (P : APlan) → Asks r buffer q → Backed L q → Least (problem L) q P → Turns L r buffer a s x
         → (a ≡ given L P) × (s ≡ listing running P.set) × (x ≡ P.table)
-    turns_least q P k b l (refused {n = n} h e t u) =
-        absurd (gives_not_none (turn_rows L r buffer) n h (none_after (rows L (length buffer)) _ g
+    turns_least q P k b l (refused {f = f} h e t u) =
+        absurd (gives_not_none (turn_rows L r buffer) (refusal_number f) h (none_after (rows L (length buffer)) _ g
         (no_nine k, (no_ten k b, (no_eleven k (least_or_none_left (problem L) l), tt)))))
     turns_least q P k b l (found {P = Q} h c m e w u) =
         let same : Q ≡ P = least_is_one (problem L) (rw (asks_one r buffer c k) at m) l in (cc, cc, cc)
@@ -53,12 +54,13 @@ module _ (L : Lent) (r : ListingRecord) (buffer : List ℕ) where
     -- 11 it is, where that row applies and neither 9 nor 10 does
     turns_over : ¬ (ended < r.stage) → ¬ ((r.stage ≡ running) × ¬ Sound (problem L) (plan r.last buffer))
         → (r.stage ≡ ended) ⊎ ((q : Asked) × Asks r buffer q × NoneLeft (problem L) q) → Turns L r buffer a s x
-        → (a ≡ Refused (refusal 11)) × (s.stage ≡ ended) × (x ≡ buffer)
-    turns_over nine ten over (refused {n = n} h e t u) =
-        let same : n ≡ 11 = gives_one (turn_rows L r buffer) n 11 h (gives_after (rows L (length buffer)) _ 11 g (inr (nine, inr (ten, inl (over, refl))))) in
-        (cc, staged same t, u)
+        → (a ≡ Err NoPlan) × (s.stage ≡ ended) × (x ≡ buffer)
+    turns_over nine ten over (refused {f = f} h e t u) =
+        let eleven = gives_one (turn_rows L r buffer) (refusal_number f) 11 h (gives_after (rows L (length buffer)) _ 11 g (inr (nine, inr (ten, inl (over, refl))))) in
+        let same : f ≡ NoPlan = number_differs eleven in
+        (cc, staged eleven t, u)
       where
-        staged : n ≡ 11 → Kept r n s → s.stage ≡ ended
+        staged : refusal_number f ≡ 11 → Kept r (refusal_number f) s → s.stage ≡ ended
         staged same (closed c d) = ap (λ (v : ListingRecord). v.stage) d
         staged same (left c d) = absurd (c same)
     turns_over nine ten over (found h c m e w u) = absurd (none_over c m over)

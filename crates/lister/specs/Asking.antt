@@ -1,20 +1,18 @@
 -- Asking over and over (demand 3): what it is to ask for the first plan and then for the next, and to turn a fresh record, with all else kept the same.
-use Rattle.std.specs.Prelude.{◌≡◌, List, [], ◌∷◌, ℕ, suc, ◌≤◌}
-use Rattle.basis.specs.Rows.{refusal}
-use Rattle.pacsolve.specs.declared.Cost.{Cost}
+use Rattle.std.specs.Prelude.{◌≡◌, List, [], ◌∷◌, ℕ, suc, ◌≤◌, Ok, Err}
+use Rattle.basis.specs.declared.Refusal.TheVariants.{NoPlan}
+use Rattle.pacsolve.specs.declared.Listed.{Listed}
 use Rattle.pacsolve.specs.Plan.{Plan as APlan}
 use Rattle.catalogue.specs.Tables.{Lent}
-use Rattle.lister.specs.declared.Answer.{Answer}
-use Rattle.lister.specs.declared.Answer.TheVariants.{Refused, Plan}
 use Rattle.lister.specs.declared.ListingRecord.{ListingRecord}
-use Rattle.lister.specs.Answers.{given, Firsts, Nexts}
+use Rattle.lister.specs.Answers.{Answer, given, Firsts, Nexts}
 use Rattle.lister.specs.Turns.{fresh, ended, Turns}
 
 -- Call 0 asks for the first plan. Where call i answered a plan, call i + 1 asks for the next after it, the plan given back as it was handed out. `buffers i`
 -- is the plan buffer before call i, and `answers i` what that call answers: whatever fits the relations.
 pub record Asking (L : Lent) (answers : ℕ → Answer) (buffers : ℕ → List ℕ) : Type 0 where
   pub first : Firsts L (buffers 0) (answers 0) (buffers 1)
-  pub next : (i set : ℕ) (c : Cost) → answers i ≡ Plan set c → Nexts L set (buffers (suc i)) (answers (suc i)) (buffers (suc (suc i)))
+  pub next : (i : ℕ) (l : Listed) → answers i ≡ Ok l → Nexts L l.set (buffers (suc i)) (answers (suc i)) (buffers (suc (suc i)))
 
 -- a fresh record turned over and over, the buffer untouched between turns: `records i` is the record before turn i
 pub record Turning (L : Lent) (answers : ℕ → Answer) (records : ℕ → ListingRecord) (buffers : ℕ → List ℕ) : Type 0 where
@@ -28,7 +26,7 @@ pub record Hands (L : Lent) (answers : ℕ → Answer) (buffers : ℕ → List �
 
 -- call i answers 11 and leaves the buffer as it was
 pub record Closes (answers : ℕ → Answer) (buffers : ℕ → List ℕ) (i : ℕ) : Type 0 where
-  pub answer : answers i ≡ Refused (refusal 11)
+  pub answer : answers i ≡ Err NoPlan
   pub buffer : buffers (suc i) ≡ buffers i
 
 -- from call i on the plans are handed out in turn, and then End holds

@@ -1,17 +1,15 @@
 -- What a turn may answer, and what it makes of the plan buffer and of the listing record.
-use Rattle.std.specs.Prelude.{◌≡◌, List, [], ◌∷◌, ◌++◌, ◌⊎◌, ℕ, ◌<◌, length}
+use Rattle.std.specs.Prelude.{◌≡◌, List, [], ◌∷◌, ◌++◌, ◌⊎◌, ℕ, ◌<◌, length, Ok, Err}
 use Rattle.basis.specs.declared.Refusal.{Refusal}
-use Rattle.basis.specs.Rows.{Row, row, Gives, GivesNone, refusal}
-use Rattle.pacsolve.specs.declared.Cost.{Cost}
+use Rattle.basis.specs.Rows.{Row, row, Gives, GivesNone, number_of}
+use Rattle.pacsolve.specs.declared.Listed.{Listed}
 use Rattle.pacsolve.specs.Plan.{Plan as APlan, plan, Sound}
 use Rattle.pacsolve.specs.Listing.{Asked, from_the_start, after, Least, NoneLeft}
 use Rattle.catalogue.specs.Tables.{Lent}
 use Rattle.catalogue.specs.Refusals.{rows}
 use Rattle.catalogue.specs.Gives.{problem}
-use Rattle.lister.specs.declared.Answer.{Answer}
-use Rattle.lister.specs.declared.Answer.TheVariants.{Refused, Plan}
 use Rattle.lister.specs.declared.ListingRecord.{ListingRecord}
-use Rattle.lister.specs.Answers.{given}
+use Rattle.lister.specs.Answers.{Answer, given, Lists}
 
 abbrev pub fresh : ℕ
 fresh = 0
@@ -47,15 +45,21 @@ pub data Kept (r : ListingRecord) (n : ℕ) (r' : ListingRecord) : Type 0 where
 
 -- THE RELATION: for what is lent, a record and a plan buffer, the answer, the record after and the buffer after
 pub data Turns (L : Lent) (r : ListingRecord) (buffer : List ℕ) (a : Answer) (r' : ListingRecord) (buffer' : List ℕ) : Type 0 where
-  refused : {n : ℕ} → Gives (turn_rows L r buffer) n → a ≡ Refused (refusal n) → Kept r n r' → buffer' ≡ buffer → Turns L r buffer a r' buffer'
+  refused : {f : Refusal} → Gives (turn_rows L r buffer) (number_of f) → a ≡ Err f → Kept r (number_of f) r' → buffer' ≡ buffer
+      → Turns L r buffer a r' buffer'
   found : {q : Asked} {P : APlan} → GivesNone (turn_rows L r buffer) → Asks r buffer q → Least (problem L) q P
       → a ≡ given L P → r' ≡ listing running P.set → buffer' ≡ P.table → Turns L r buffer a r' buffer'
 
 -- the record after an answer
 pub data MovesOn (r : ListingRecord) (a : Answer) (r' : ListingRecord) : Type 0 where
-  refused_with : {f : Refusal} → a ≡ Refused f → Kept r f.number r' → MovesOn r a r'
-  given_plan : {set : ℕ} {c : Cost} → a ≡ Plan set c → r' ≡ listing running set → MovesOn r a r'
+  refused_with : {f : Refusal} → a ≡ Err f → Kept r (number_of f) r' → MovesOn r a r'
+  given_plan : {l : Listed} → a ≡ Ok l → r' ≡ listing running l.set → MovesOn r a r'
 
 -- what a record past running is refused with
-pub record Closing (L : Lent) (room stage n : ℕ) : Type 0 where
-  pub gives : running < stage → Gives (rows L room ++ (row 9 (ended < stage) ∷ row 11 (stage ≡ ended) ∷ [])) n
+pub record Closing (L : Lent) (room stage : ℕ) (f : Refusal) : Type 0 where
+  pub gives : running < stage → Gives (rows L room ++ (row 9 (ended < stage) ∷ row 11 (stage ≡ ended) ∷ [])) (number_of f)
+
+-- the answer of a turn: what is answered to what its record asks for, or what a record past running is refused with
+pub data TurnAnswers (L : Lent) (r : ListingRecord) (buffer : List ℕ) (a : Answer) (buffer' : List ℕ) : Type 0 where
+  asked : {q : Asked} → Asks r buffer q → Lists L q buffer a buffer' → TurnAnswers L r buffer a buffer'
+  past_running : {f : Refusal} → running < r.stage → Closing L (length buffer) r.stage f → a ≡ Err f → buffer' ≡ buffer → TurnAnswers L r buffer a buffer'

@@ -27,33 +27,6 @@ use Rattle.node.proofs.Slotted.{Slotted}
 use Rattle.node.proofs.Settling.{with_only}
 use Rattle.node.proofs.Stores.{stored_fewer, stored_keeps}
 
--- one slot
-module _ {owner choices : ℕ} {rows : List ℕ} (size : length rows ≡ 64) where
-  pub pointed_none : Pointed owner choices rows rows
-  pointed_none = record { size = size; holds = λ e d m. inl m }
-
-  pub pointed_one : {c r : ℕ} → c < 64 → Only choices c → With (get_or rows c 0) owner r → Pointed owner choices rows (set rows c r)
-  pointed_one {c} {r} l only w = record { size = length-set rows c r ∙ size; holds = λ e d m. go e d m (ℕ_discrete e c) }
-    where
-      go : (e d : ℕ) → Holds (set rows c r) e d → Dec (e ≡ c) → Holds rows e d ⊎ ((d ≡ owner) × Only choices e)
-      go e d m (yes same) =
-          ⊎_elim (λ its. inr (its, rw same only)) (λ was. inl (rw same was)) (with_only w d ((stored_here rows c r (omega arith) e d same).0 m))
-      go e d m (no other) = inl ((stored_elsewhere rows c r e d other).0 m)
-
--- the slots of a span
-module _ {start end owner : ℕ} {choices rows : List ℕ} where
-  pub pointed_start : length rows ≡ 64 → PointedAll start end owner choices rows rows
-  pointed_start size = record { size = size; holds = λ e d m. inl m }
-
-  pub pointed_more : {more most : List ℕ} (s : ℕ) → start ≤ s → s < end → PointedAll start end owner choices rows more → Pointed owner (get_or choices s 0) more most
-      → PointedAll start end owner choices rows most
-  pointed_more s low high was now =
-      record {
-        size = now.size;
-        holds = λ e d m.
-            ⊎_elim (λ x. was.holds e d x) (λ x. inr (x.0, record { slot = s; low = low; high = high; choice = x.1 })) (now.holds e d m);
-      }
-
 module _ {first choices : List ℕ} where
   pub sources_none : Sources first choices (replicate 64 0)
   sources_none = record { size = length-replicate {A = ℕ} 64 0; holds = λ e d m. absurd (fresh_none e d m) }
@@ -71,50 +44,13 @@ module _ {first choices : List ℕ} where
         holds = λ e d m. ⊎_elim (λ x. was.holds e d x) (λ x. by_way (was.holds k d x.1) (was.holds e k x.0)) ((now.holds e d).0 m);
       }
 
-pub followed_none : {rows : List ℕ} → length rows ≡ 64 → Followed rows rows
-followed_none size = record { size = size; keeps = λ first choices x. x }
-
 pub followed_pass : {k : ℕ} {rows more : List ℕ} → Passes k rows more → Followed rows more
 followed_pass x = record { size = x.size; keeps = λ first choices was. sources_passed was x }
 
 pub followed_more : {rows more most : List ℕ} → Followed rows more → Followed more most → Followed rows most
 followed_more a b = record { size = b.size; keeps = λ first choices was. b.keeps first choices (a.keeps first choices was) }
 
-pub looped_none : {out row d : ℕ} → WithLooped out row d out
-looped_none = record { members = λ e m. inl m }
-
-pub looped_one : {out row d r : ℕ} → Member row d → With out d r → WithLooped out row d r
-looped_one own w = record { members = λ e m. ⊎_elim (λ same. inr (same, own)) (λ x. inl x) (with_only w e m) }
-
-pub loops_none : {rows : List ℕ} → Loops rows 0
-loops_none = record { members = λ e m. absurd (none_in_empty e m) }
-
-pub loops_more : {rows : List ℕ} {out d r : ℕ} → Loops rows out → WithLooped out (get_or rows d 0) d r → Loops rows r
-loops_more was now = record { members = λ e m. ⊎_elim (λ x. was.members e x) (λ x. rw x.0 x.1) (now.members e m) }
-
--- the slots of a span
-module _ {start end back : ℕ} {choices : List ℕ} where
-  pub back_none : TakenBack start end back choices choices
-  back_none = record { sized = refl; fewer = λ s e m. m; kept = λ s e m. inl m }
-
-  pub back_more : {left : List ℕ} (s r : ℕ) → start ≤ s → s < end → TakenBack start end back choices left → Less (get_or left s 0) back r
-      → TakenBack start end back choices (set left s r)
-  back_more {left} s r low high was less =
-      record {
-        sized = length-set left s r ∙ was.sized;
-        fewer = λ t e m. was.fewer t e (stored_fewer left s r (λ d x. ((less d).0 x).0) t e m);
-        kept = λ t e m. ⊎_elim (λ x. go t e x (ℕ_discrete t s) (member_or_not back e)) (λ x. inr x) (was.kept t e m);
-      }
-    where
-      go : (t e : ℕ) → Member (get_or left t 0) e → Dec (t ≡ s) → Dec (Member back e) → Member (get_or (set left s r) t 0) e ⊎ ((start ≤ t) × (t < end) × Member back e)
-      go t e x (no other) y = inl (stored_keeps left s r t e x (λ same. absurd (other same)))
-      go t e x (yes same) (yes y) = inr (rw same low, rw same high, y)
-      go t e x (yes same) (no n) = inl (stored_keeps left s r t e x (λ k. (less e).1 (rw same at x, n)))
-
 module _ {first rows choices : List ℕ} where
-  pub unlooped_none : Unlooped first rows choices choices
-  unlooped_none = record { sized = refl; fewer = λ s e m. m; kept = λ s e m. inl m }
-
   -- one entry more
   pub unlooped_more : {left less : List ℕ} {owner back : ℕ} → owner < 64 → Unlooped first rows choices left → With (get_or rows owner 0) owner back
       → TakenBack (get_or first owner 0) (get_or first (owner + 1) 0) back left less → Unlooped first rows choices less

@@ -22,29 +22,9 @@ use Rattle.node.specs.Clashing.{Placed, Row, Rows, Both, Shared, Clashes, Alikes
 pub record Upto (Q : ℕ → Type 0) (f row : ℕ) : Type 0 where
   pub holds : (g : ℕ) → Member row g ↔ ((g < f) × Q g)
 
-pub upto_none : (Q : ℕ → Type 0) → Upto Q 0 0
-upto_none Q = record { holds = λ g. (λ m. absurd (none_in_empty g m), λ x. absurd (not-suc-le-zero x.0)) }
-
 module _ {Q : ℕ → Type 0} {f row : ℕ} (u : Upto Q f row) where
   later : (g : ℕ) → Member row g → (g < f + 1) × Q g
   later g m = let x = (u.holds g).0 m in (omega (arith, x.0), x.1)
-
-  sooner : (g : ℕ) → (g < f + 1) × Q g → ¬ (g ≡ f) → Member row g
-  sooner g x n = (u.holds g).1 (omega (arith, x.0), x.1)
-
-  pub upto_with : {r : ℕ} → f < 64 → With row f r → Q f → Upto Q (f + 1) r
-  upto_with {r} l w q = record { holds = λ g. (λ m. into g ((w.members l g).0 m), λ x. from g x (ℕ_discrete g f)) }
-    where
-      into : (g : ℕ) → (g ≡ f) ⊎ Member row g → (g < f + 1) × Q g
-      into g (inl same) = (omega arith, rw same q)
-      into g (inr m) = later g m
-
-      from : (g : ℕ) → (g < f + 1) × Q g → Dec (g ≡ f) → Member r g
-      from g x (yes same) = (w.members l g).1 (inl same)
-      from g x (no other) = (w.members l g).1 (inr (sooner g x other))
-
-  pub upto_same : ¬ Q f → Upto Q (f + 1) row
-  upto_same n = record { holds = λ g. (later g, λ x. sooner g x (λ same. n (rw same at x.1))) }
 
   pub upto_end : {count : ℕ} (entries : List ℕ) → ((e : ℕ) → (e < count) ↔ Placed entries e) → f ≤ count → count ≤ f → Row entries Q row
   upto_end entries all l h =

@@ -34,29 +34,8 @@ apart_decides choices footing h =
     (λ z e m. (member_below 64 choices e h m, λ g. not_empty (bit_and choices footing) e ((meet_members choices footing e).1 (m, g)) z))
     (λ x. empty_by_members (bit_and choices footing) (λ e m. let both = (meet_members choices footing e).0 m in (x e both.0).1 both.1))
 
--- each slot from start on, before s, has a choice in the footing
-pub record Standing (start : ℕ) (choices : List ℕ) (footing s : ℕ) : Type 0 where
-  pub low : start ≤ s
-  pub none : (t : ℕ) → start ≤ t → t < s → ¬ Apart (get_or choices t 0) footing
-
-module _ {start : ℕ} {choices : List ℕ} {footing : ℕ} where
-  pub standing_none : Standing start choices footing start
-  standing_none = record { low = le_refl start; none = λ t low high. absurd (omega arith) }
-
-  -- one slot more
-  pub standing_more : {s : ℕ} → Standing start choices footing s → ¬ Apart (get_or choices s 0) footing → Standing start choices footing (s + 1)
-  standing_more was n =
-      record { low = omega (arith, was.low); none = λ t low high x. ⊎_elim (λ same. n (rw same at x)) (λ h. was.none t low h x) (below_suc (omega arith)) }
-
-  -- all of them
-  pub standing_all : {s end : ℕ} → end ≤ s → Standing start choices footing s → ¬ HasSlot start end choices (λ set. Apart set footing)
-  standing_all end all x = all.none x.slot x.low (lt_of_lt_of_le x.high end) x.choice
-
 -- the machine's count of the zeros above a set's highest bit that is 1 gives a member
 module _ (set : ℕ) (some : ¬ (set ≡ 0)) (h : set < 2 ^ 64) where
-  pub zeros_below : count_leading_zeros 64 set < 64
-  zeros_below = omega (arith, (leading_top 64 set (omega arith) h).1)
-
   pub highest_member : Member set (63 - count_leading_zeros 64 set)
   highest_member =
       let top = leading_top 64 set (omega arith) h in
@@ -99,23 +78,9 @@ module _ {first choices : List ℕ} {ban footing found rest d : ℕ} (was : Risi
     fits : less < 2 ^ 64
     fits = below_by_members 64 less (λ o y. member_below 64 rest o was.fits (within o y))
 
-    pub rising_held : HeldUp first choices found d → Rising first choices ban footing found less
-    rising_held held =
-        record { fits = fits; outside = λ o y. was.outside o (within o y); passed = λ same o l b g. go same o (was.passed same o l b g) (ℕ_discrete o d) }
-      where
-        go : found ≡ footing → (o : ℕ) → Member rest o ⊎ HeldUp first choices footing o → Dec (o ≡ d) → Member less o ⊎ HeldUp first choices footing o
-        go same o (inr up) y = inr up
-        go same o (inl r) (yes q) = inr (rw q (rw same at held))
-        go same o (inl r) (no n) = inl ((x.members left_below o).1 (r, n))
-
     pub rising_found : {r : ℕ} → With found d r → Rising first choices ban footing r less
     rising_found w =
         record { fits = fits; outside = λ o y. was.outside o (within o y); passed = λ same. absurd (was.outside d m (rw same at ((w.members left_below d).1 (inl refl)))) }
-
--- nothing is left
-pub rising_all : {first choices : List ℕ} {ban footing r rest : ℕ} → rest ≡ 0 → Rising first choices ban footing r rest → Risen first choices ban footing r
-rising_all z all =
-    record { held = λ same o l b g. ⊎_elim (λ m. absurd (none_in_empty o (rw z at m))) (λ up. up) (all.passed same o l b g) }
 
 -- what is neither banned nor in a footing that has gained nothing
 pub hangs_held : {first choices : List ℕ} {ban footing r : ℕ} → ban < 2 ^ 64 → footing < 2 ^ 64 → r ≡ footing → Risen first choices ban footing r
@@ -135,9 +100,6 @@ hangs_held {first} {choices} {ban} {footing} hb hg same up = record { below = λ
         let not_banned = ((rest_members 64 ban o hb).0 ((meet_members (2 ^ 64 - 1 - footing) (2 ^ 64 - 1 - ban) o).0 m).1).1 in
         let h = up.held same o (outside o m).0 not_banned (outside o m).1 in
         record { slot = h.slot; low = h.low; high = h.high; choice = λ e x. again e (h.choice e x) (member_or_not ban e) }
-
-pub hangs_none : {first choices : List ℕ} {ban : ℕ} → Hangs first choices ban 0
-hangs_none = record { below = λ o m. absurd (none_in_empty o m); members = λ o m. absurd (none_in_empty o m) }
 
 -- a plan with one of them would step from one to the next for ever
 pub hangs_unused : (p : Problem) {slots first choices : List ℕ} {must ban out : ℕ} → Slotted p slots → Spans slots first → p.forbidden → Hangs first choices ban out

@@ -7,6 +7,7 @@ pub mod Clashing
 pub mod Compared
 pub mod Few
 pub mod Grounding
+pub mod Left
 pub mod Lower
 pub mod Narrowing
 pub mod Preceding
@@ -14,4 +15,3 @@ pub mod Reaching
 pub mod Settling
 pub mod Slotted
 pub mod Stores
-pub mod Told

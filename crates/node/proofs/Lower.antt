@@ -1,7 +1,6 @@
 -- Lower tables: a table that is nowhere above another comes before all that the other comes before, so a plan at the best's cost lies inside a node only if the
 -- lowest table of the node comes before the best's.
 use mathlib.Core.Path.{◌≡◌, sym, ap, ◌∙◌}
-use mathlib.Core.Bool.{true, false}
 use mathlib.Core.List.{List, [], ◌∷◌}
 use mathlib.Core.Logic.{◌⊎◌, inl, inr}
 use Prim.Native.Nat.{ℕ, suc, ◌+◌, ◌≤◌, ◌<◌}
@@ -14,6 +13,8 @@ use Rattle.bitset.specs.Search.{LowestOr64}
 use Rattle.bitset.proofs.Sets.{member_or_not, not_empty}
 use Rattle.pacsolve.specs.Problem.{Problem}
 use Rattle.pacsolve.specs.Plan.{Plan, plan, none, chosen, MemberOf}
+use Rattle.pacsolve.specs.declared.Cost.{Cost}
+use Rattle.pacsolve.specs.declared.Listed.{Listed}
 use Rattle.pacsolve.specs.Cost.{cost}
 use Rattle.pacsolve.specs.Listing.{Good}
 use Rattle.pacsolve.specs.Order.{Earlier, lower, alike, Precedes, cheaper, tied}
@@ -21,10 +22,9 @@ use Rattle.pacsolve.proofs.Order.{earlier_cases}
 use Rattle.price.specs.declared.Scale.{Scale}
 use Rattle.price.specs.Worth.{Scaled, worth_of}
 use Rattle.price.proofs.Worth.{Modest, worth_less}
-use Rattle.node.specs.declared.Best.{Best}
 use Rattle.node.specs.declared.Node.{Node}
 use Rattle.node.specs.Facts.{LowTable, Ceils}
-use Rattle.node.specs.Sought.{Inside, Costed}
+use Rattle.node.specs.Sought.{under, before, Inside}
 use Rattle.node.proofs.Slotted.{Slotted}
 
 -- the lowest member is no higher than another
@@ -69,32 +69,28 @@ module _ (p : Problem) (slots : List ℕ) (slotted : Slotted p slots) (node : No
         let small : i < p.slots = omega (arith, good.sized) in
         rw (get_or-take p.slots table i 255 small) (at i small)) h
 
-module _ (p : Problem) (scale : Scale) (scaled : Scaled p.objectives scale) (modest : Modest p) (best : Best) (costed : Costed p best) (buffer : List ℕ) (node : Node)
-    (choices : List ℕ) where
+module _ (p : Problem) (scale : Scale) (scaled : Scaled p.objectives scale) (modest : Modest p) (node : Node) (choices : List ℕ) where
   -- no plan is found: all that is sought costs less than the bound
-  pub ceils_bound : best.found ≡ false → Ceils p scale best buffer node choices (worth_of scale best.cost)
-  ceils_bound none = record { over = λ P good below inside. worth_less p scale scaled modest P.set best.cost (rw none at below) }
+  pub ceils_bound : (c : Cost) → Ceils p scale (under c) node choices (worth_of scale c)
+  ceils_bound c = record { over = λ P good below inside. worth_less p scale scaled modest P.set c below }
 
   -- at the best's cost, where a lower table is to be had or not
-  module _ (found : best.found ≡ true) where
-    its_cost : best.cost ≡ cost p best.set
-    its_cost = costed found
-
+  module _ (best : Listed) (costed : best.cost ≡ cost p best.set) (buffer : List ℕ) where
     worth_at : (P : Plan) → Precedes p P (plan best.set buffer)
         → (worth_of scale (cost p P.set) < worth_of scale best.cost) ⊎ ((worth_of scale (cost p P.set) ≡ worth_of scale best.cost) × Earlier P.table buffer)
-    worth_at P (cheaper h) = inl (rw its_cost (worth_less p scale scaled modest P.set (cost p best.set) h))
-    worth_at P (tied e t) = inr (ap (worth_of scale) (e ∙ sym its_cost), t)
+    worth_at P (cheaper h) = inl (rw costed (worth_less p scale scaled modest P.set (cost p best.set) h))
+    worth_at P (tied e t) = inr (ap (worth_of scale) (e ∙ sym costed), t)
 
-    pub ceils_tied : Ceils p scale best buffer node choices (worth_of scale best.cost + 1)
-    ceils_tied = record { over = λ P good below inside. go (worth_at P (rw found at below)) }
+    pub ceils_tied : Ceils p scale (before (plan best.set buffer)) node choices (worth_of scale best.cost + 1)
+    ceils_tied = record { over = λ P good below inside. go (worth_at P below) }
       where
         go : {w : ℕ} {A : Type 0} → (w < worth_of scale best.cost) ⊎ ((w ≡ worth_of scale best.cost) × A) → w < worth_of scale best.cost + 1
         go (inl h) = omega arith
         go (inr h) = omega (arith, h.0)
 
     pub ceils_past : (slots : List ℕ) → Slotted p slots → (table : List ℕ) → LowTable slots node.ban choices table → p.slots ≤ length table
-        → ¬ Earlier (take p.slots table) buffer → Ceils p scale best buffer node choices (worth_of scale best.cost)
-    ceils_past slots slotted table low few late = record { over = λ P good below inside. go P good inside (worth_at P (rw found at below)) }
+        → ¬ Earlier (take p.slots table) buffer → Ceils p scale (before (plan best.set buffer)) node choices (worth_of scale best.cost)
+    ceils_past slots slotted table low few late = record { over = λ P good below inside. go P good inside (worth_at P below) }
       where
         go : (P : Plan) → Good p P → Inside p node.must node.ban choices P
             → (worth_of scale (cost p P.set) < worth_of scale best.cost) ⊎ ((worth_of scale (cost p P.set) ≡ worth_of scale best.cost) × Earlier P.table buffer)

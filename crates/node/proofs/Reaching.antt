@@ -26,9 +26,6 @@ use Rattle.node.proofs.Settling.{with_only}
 
 -- the slots of a span, one after the other
 module _ {start : ℕ} {choices : List ℕ} {reach : ℕ} where
-  pub taken_none : Taken start start choices reach reach
-  taken_none = record { more = λ e m. m; choice = λ s low high. absurd (omega arith) }
-
   pub taken_more : {s found : ℕ} → Taken start s choices reach found → Taken start (s + 1) choices reach (bit_or found (get_or choices s 0))
   taken_more {s} {found} was =
       record {
@@ -37,17 +34,11 @@ module _ {start : ℕ} {choices : List ℕ} {reach : ℕ} where
             (join_members found (get_or choices s 0) e).1 (⊎_elim (λ same. inr (rw same at m)) (λ h. inl (was.choice t low h e m)) (below_suc (omega arith)));
       }
 
-  pub taken_all : {s end r : ℕ} → end ≤ s → Taken start s choices reach r → Taken start end choices reach r
-  taken_all end all = record { more = all.more; choice = λ t low high. all.choice t low (lt_of_lt_of_le high end) }
-
 -- a reach with all of must, and with the choices of the slots of each entry passed
 pub record Grown (first choices : List ℕ) (must reach passed : ℕ) : Type 0 where
   pub fits : (reach < 2 ^ 64) × (passed < 2 ^ 64)
   pub start : (e : ℕ) → Member must e → Member reach e
   pub choice : (d s : ℕ) → Member passed d → get_or first d 0 ≤ s → s < get_or first (d + 1) 0 → (e : ℕ) → Member (get_or choices s 0) e → Member reach e
-
-pub grown_none : {first choices : List ℕ} {must : ℕ} → must < 2 ^ 64 → Grown first choices must must 0
-grown_none h = record { fits = (h, omega arith); start = λ e m. m; choice = λ d s m. absurd (none_in_empty d m) }
 
 module _ {first choices : List ℕ} {must reach passed d : ℕ} (was : Grown first choices must reach passed) where
   -- one entry more

@@ -2,37 +2,34 @@
 -- to one number, and the entries' prices.
 use Rattle.std.specs.Prelude.{◌≡◌, List, ℕ, ◌+◌, ◌*◌, ◌/◌, ◌≤◌, ◌<◌, length, get_or}
 use Rattle.bitset.specs.Bits.{Member}
-use Rattle.pacsolve.specs.Problem.{Problem}
+use Rattle.pacsolve.specs.Problem.{Problem as AProblem}
 use Rattle.pacsolve.specs.Plan.{Plan}
 use Rattle.pacsolve.specs.Cost.{cost}
 use Rattle.pacsolve.specs.Listing.{Good}
-use Rattle.catalogue.specs.Spans.{Spans, Bounded, owner_in}
+use Rattle.catalogue.specs.Spans.{Spans, owner_in}
+use Rattle.plan.specs.declared.Problem.{Problem}
 use Rattle.price.specs.declared.Scale.{Scale}
 use Rattle.price.specs.Worth.{Scaled, worth_of, BasePrices}
 use Rattle.price.specs.Kinds.{OfOnePackage}
 use Rattle.price.specs.Floor.{Moderate}
-use Rattle.node.specs.declared.Best.{Best}
+use Rattle.node.specs.declared.Facts.{Facts}
 use Rattle.node.specs.declared.Node.{Node}
 use Rattle.node.specs.Clashing.{Clashes}
-use Rattle.node.specs.Sought.{Below, Inside, limit_of}
+use Rattle.node.specs.Sought.{Limit, Below, Inside}
 
-pub record Facts (entries slots objectives : List ℕ) (mode : ℕ) (clash alike base first : List ℕ) (scale : Scale) : Type 0 where
-  pub spans : Spans slots first
-  pub clashes : Clashes entries mode clash
-  pub alikes : OfOnePackage entries alike
-  pub scaled : Scaled objectives scale
-  pub priced : BasePrices entries objectives scale base
-  pub moderate : Moderate base scale
+pub record FactsOf (entries slots objectives : List ℕ) (mode : ℕ) (facts : Facts) : Type 0 where
+  pub spans : Spans slots facts.spans.first
+  pub clashes : Clashes entries mode facts.clash
+  pub alikes : OfOnePackage entries facts.rates.alike
+  pub scaled : Scaled objectives facts.rates.scale
+  pub priced : BasePrices entries objectives facts.rates.scale facts.rates.base
+  pub moderate : Moderate facts.rates.base facts.rates.scale
   pub few : length entries / 5 ≤ 64
   pub light : (e : ℕ) → get_or entries (e * 5 + 4) 0 ≤ 65535
 
--- what the steps of narrowing ask of the tables' sizes
-pub record Sized (slots plan alike base first : List ℕ) (scale : Scale) : Type 0 where
-  pub bounded : Bounded first
-  pub few_slots : length slots / 4 ≤ 256
-  pub one_each : length plan ≡ length slots / 4
-  pub rows : length alike ≡ 64
-  pub moderate : Moderate base scale
+-- the facts of a problem's tables
+abbrev pub FactsFor : Problem → Facts → Type 0
+FactsFor q facts = FactsOf q.entries.now q.slots.now q.objectives.now q.settings.mode facts
 
 -- with any of these entries the sum comes to the limit or more
 abbrev pub Beyond : List ℕ → ℕ → ℕ → ℕ → Type 0
@@ -48,5 +45,5 @@ pub record LowTable (slots : List ℕ) (ban : ℕ) (choices table : List ℕ) : 
   pub low : (s : ℕ) → s < length slots / 4 → LowIn ban (owner_in slots s) (get_or choices s 0) (get_or table s 255)
 
 -- every plan inside the node that is sought is worth less
-pub record Ceils (p : Problem) (scale : Scale) (best : Best) (buffer : List ℕ) (node : Node) (choices : List ℕ) (r : ℕ) : Type 0 where
-  pub over : (P : Plan) → Good p P → Below p (limit_of best buffer) P → Inside p node.must node.ban choices P → worth_of scale (cost p P.set) < r
+pub record Ceils (p : AProblem) (scale : Scale) (lim : Limit) (node : Node) (choices : List ℕ) (r : ℕ) : Type 0 where
+  pub over : (P : Plan) → Good p P → Below p lim P → Inside p node.must node.ban choices P → worth_of scale (cost p P.set) < r

@@ -1,19 +1,22 @@
 -- Which of two plans comes first, by their costs and tables.
-use Rattle.std.specs.Prelude.{◌≡◌, Bool, true, false, List, ◌⊎◌, ℕ}
+use Rattle.std.specs.Prelude.{◌≡◌, Option, Some, None, List, ◌⊎◌, ℕ}
 use Rattle.pacsolve.specs.declared.Cost.{Cost}
 use Rattle.pacsolve.specs.Cost.{numbers}
 use Rattle.pacsolve.specs.Order.{Earlier}
+use Rattle.node.specs.declared.Limit.{Limit}
+use Rattle.node.specs.declared.Limit.TheVariants.{Under, Before}
+use Rattle.node.specs.declared.Given.{Given}
 
 -- a plan with cost a and table s comes before one with cost b and table t
 abbrev pub Ahead : Cost → List ℕ → Cost → List ℕ → Type 0
 Ahead a s b t = Earlier (numbers a) (numbers b) ⊎ ((a ≡ b) × Earlier s t)
 
--- the same, where it is asked for
-abbrev pub AheadIf : Bool → Cost → List ℕ → Cost → List ℕ → Type 0
-AheadIf true a s b t = Ahead a s b t
-AheadIf false a s b t = Unit {0}
+-- a plan comes after the one that is given, where one is
+abbrev pub AfterGiven : Option Given → Cost → List ℕ → Type 0
+AfterGiven None a s = Unit {0}
+AfterGiven (Some g) a s = Ahead g.cost g.plan.table.now a s
 
--- before a plan with cost b and table t, where there is one, and else below the cost b
-abbrev pub Sooner : Bool → Cost → List ℕ → Cost → List ℕ → Type 0
-Sooner true a s b t = Ahead a s b t
-Sooner false a s b t = Earlier (numbers a) (numbers b)
+-- a plan comes before the limit's plan, whose table is t, or costs less than the limit's bound
+abbrev pub Sooner : Limit → List ℕ → Cost → List ℕ → Type 0
+Sooner (Under c) t a s = Earlier (numbers a) (numbers c)
+Sooner (Before l) t a s = Ahead a s l.cost t

@@ -1,14 +1,16 @@
 -- What the search looks for. A node is what is known of some plans: they have all of `must`, none of `ban`, and each slot of a member names one of its `choices`. A plan
 -- is sought at a node if it is good, asked for, below the limit, and inside the node.
-use Rattle.std.specs.Prelude.{◌≡◌, Bool, true, false, List, ℕ, ◌<◌, get_or}
+use Rattle.std.specs.Prelude.{◌≡◌, Option, Some, None, List, ℕ, ◌<◌, get_or}
 use Rattle.bitset.specs.Bits.{Member}
 use Rattle.pacsolve.specs.Problem.{Problem}
-use Rattle.pacsolve.specs.Plan.{Plan, plan, chosen, MemberOf}
+use Rattle.pacsolve.specs.Plan.{Plan, plan, plan_of, chosen, MemberOf}
 use Rattle.pacsolve.specs.declared.Cost.{Cost}
 use Rattle.pacsolve.specs.Cost.{cost, numbers}
 use Rattle.pacsolve.specs.Order.{Earlier, Precedes}
 use Rattle.pacsolve.specs.Listing.{Good, Asked, from_the_start, after, Wanted}
-use Rattle.node.specs.declared.Best.{Best}
+use Rattle.node.specs.declared.Limit.{Limit as ALimit}
+use Rattle.node.specs.declared.Limit.TheVariants.{Under, Before}
+use Rattle.node.specs.declared.Given.{Given}
 
 -- what is sought costs less than the bound of the round or, once a plan is found, lies before it
 pub data Limit : Type 0 where
@@ -30,22 +32,21 @@ pub record Sought (p : Problem) (q : Asked) (lim : Limit) (must ban : ℕ) (choi
   pub below : Below p lim P
   pub inside : Inside p must ban choices P
 
--- the limit that a best plan and its table are, or the bound where none is found
-abbrev pub limit_if : Bool → Cost → Plan → Limit
-limit_if true c P = before P
-limit_if false c P = under c
+-- the limit of a bound, or of a plan and its table
+abbrev pub limit_of : ALimit → List ℕ → Limit
+limit_of (Under c) table = under c
+limit_of (Before l) table = before (plan l.set table)
 
-abbrev pub limit_of : Best → List ℕ → Limit
-limit_of b table = limit_if b.found b.cost (plan b.set table)
-
--- what is asked for, by a plan that was given or not
-abbrev pub asked_if : Bool → Plan → Asked
-asked_if true P = after P
-asked_if false P = from_the_start
-
-abbrev pub asked_of : Best → List ℕ → Asked
-asked_of b table = asked_if b.found (plan b.set table)
+-- what is asked for, by a plan that is given or not
+abbrev pub asked_of : Option Given → Asked
+asked_of None = from_the_start
+asked_of (Some g) = after (plan_of g.plan)
 
 -- the cost beside a plan is its own
-abbrev pub Costed : Problem → Best → Type 0
-Costed p b = b.found ≡ true → b.cost ≡ cost p b.set
+abbrev pub CostedLimit : Problem → ALimit → Type 0
+CostedLimit p (Under c) = Unit {0}
+CostedLimit p (Before l) = l.cost ≡ cost p l.set
+
+abbrev pub CostedGiven : Problem → Option Given → Type 0
+CostedGiven p None = Unit {0}
+CostedGiven p (Some g) = g.cost ≡ cost p g.plan.set

@@ -1,15 +1,15 @@
 // The ceiling of a node: what every plan that is sought there is worth less than. At the best plan's cost only a table before its table will do, so where no table
 // inside the node comes before it, that cost is out too.
-ghost use Rattle.std.specs.Prelude.{List, ◌≡◌, ℕ, ◌+◌, ◌*◌, ◌/◌, ◌≤◌, ◌<◌, ◌^◌, length, get_or};
-ghost use Rattle.catalogue.specs.declared.Settings.{Settings as Setting};
-ghost use Rattle.catalogue.specs.Survey.{tabled};
-ghost use Rattle.price.specs.Worth.{Small, Scaled};
-ghost use Rattle.node.specs.Facts.{LowIn, LowTable, Ceils};
-ghost use Rattle.node.specs.Sought.{Costed};
+ghost use Rattle.std.specs.Prelude.{◌/◌, ◌≤◌, ◌<◌, ◌^◌, length};
+ghost use Rattle.plan.specs.Posing.{problem_by};
+ghost use Rattle.node.specs.Facts.{FactsFor, LowIn, LowTable, Ceils};
+ghost use Rattle.node.specs.Narrowing.{Ready};
+ghost use Rattle.node.specs.Sought.{limit_of};
 
 use crate::order::earlier;
-use crate::{Best, Node};
-use price::Scale;
+use crate::tables::tabled;
+use crate::{Facts, Limit, Node};
+use plan::Problem;
 use price::worths::worth;
 
 // What a slot holds at least: its lowest choice, and 255 where its owner is banned.
@@ -27,36 +27,32 @@ fn low_table(slots: &[u16], ban: u64, choices: &[u64; 256]) -> [u8; 256]
     requires { length slots.now / 4 ≤ 256 }
     ensures { LowTable slots.now ban choices.now result }
 {
-    let count = slots.len() / 4;
-    let mut table = [255u8; 256];
-    let mut s: usize = 0;
-    while s < count {
-        table[s] = low_in(ban, slots[s * 4] as u32, choices[s]);
-        s += 1;
-    }
-    table
+    tabled(slots, choices, |owner, all| low_in(ban, owner, all))
 }
 
 pub fn ceiling(
-    slots: &[u16],
-    scale: Scale,
-    best: Best,
+    problem: &Problem,
+    facts: &Facts,
+    limit: Limit,
     plan: &[u8],
     node: Node,
     choices: &[u64; 256],
 ) -> u64
-    requires { (length slots.now / 4 ≤ 256) × ((length plan.now ≡ length slots.now / 4) × Small scale) }
-    ensures { (result < 2 ^ 63) × ((entries objectives fits : List ℕ) (settings : Setting) → Scaled objectives scale → length entries / 5 ≤ 64 → ((e : ℕ) → get_or entries (e * 5 + 4) 0 ≤ 65535) → Costed (tabled entries slots.now settings objectives fits) best → Ceils (tabled entries slots.now settings objectives fits) scale best plan.now node choices.now result) }
+    requires ready { Ready (problem_by problem.now) node limit plan.now }
+    requires facts { FactsFor problem.now facts.now }
+    ensures fits { result < 2 ^ 63 }
+    ensures over { Ceils (problem_by problem.now) facts.now.rates.scale (limit_of limit plan.now) node choices.now result }
 {
-    let top = worth(scale, best.cost);
-    let found = best.found;
-    if !found {
-        return top;
+    let scale = facts.rates.scale;
+    match limit {
+        Limit::Under(bound) => worth(scale, bound),
+        Limit::Before(best) => {
+            let top = worth(scale, best.cost);
+            let table = low_table(problem.slots, node.ban, choices);
+            if earlier(&table[..plan.len()], plan) {
+                return top + 1;
+            }
+            top
+        }
     }
-    let table = low_table(slots, node.ban, choices);
-    let m = plan.len();
-    if earlier(&table[..m], plan) {
-        return top + 1;
-    }
-    top
 }

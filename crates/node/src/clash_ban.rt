@@ -6,26 +6,22 @@ ghost use Rattle.node.specs.Clashing.{Clashes, Banned};
 ghost use Rattle.node.specs.Steps.{Settled};
 
 use crate::Node;
+use crate::banned::ban_all;
 
 // A ban with the clashes of every must entry.
 fn with_clashes(ban: u64, must: u64, clash: &[u64; 64]) -> u64
     ensures { Banned ban must clash.now result }
 {
     let mut all = ban;
-    let mut rest = must;
-    while rest != 0 {
-        let e = bitset::lowest(rest);
+    for e in bitset::members(must) {
         all |= clash[e as usize];
-        rest = bitset::without(rest, e);
     }
     all
 }
 
-pub fn clash_banned(node: Node, clash: &[u64; 64]) -> Node
+pub fn clash_banned(node: Node, clash: &[u64; 64]) -> Option<Node>
     ensures { (entries slots objectives fits choices : List ℕ) (settings : Setting) → Clashes entries settings.mode clash.now → Settled (tabled entries slots settings objectives fits) node result choices choices }
 {
-    let must = node.must;
-    let ban = with_clashes(node.ban, must, clash);
-    let alive = must & ban == 0;
-    Node { must, ban, alive }
+    let out = with_clashes(node.ban, node.must, clash);
+    ban_all(node, out)
 }

@@ -12,22 +12,38 @@ pub mod holds;
 pub mod narrow;
 pub mod order;
 mod settle;
+pub mod tables;
 mod within_reach;
 
-use pacsolve::Cost;
+use catalogue::spans::SlotSpans;
+use pacsolve::{Cost, Listed, Plan};
+use price::Rates;
 
-// A plan's set and cost, where there is a plan; its table stands beside it in a buffer. Where there is none yet, cost is the bound that plans are looked for below.
+// What plans are looked for below: a bound on the cost or, once a plan is found, that plan, whose table stands in a buffer.
 #[derive(Clone, Copy)]
-pub struct Best {
-    pub found: bool,
-    pub set: u64,
+pub enum Limit {
+    Under(Cost),
+    Before(Listed),
+}
+
+// The plan that is asked after.
+#[derive(Clone, Copy)]
+pub struct Given<'a> {
+    pub plan: Plan<'a>,
     pub cost: Cost,
 }
 
-// What is known of the plans that are looked for at a node: they have all of must and none of ban. Where alive is false there are none.
-#[derive(Clone, Copy)]
+// What is known of the plans that are looked for at a node: they have all of must and none of ban. A step answers no node where there are none.
+#[derive(Clone, Copy, PartialEq, Eq)]
 pub struct Node {
     pub must: u64,
     pub ban: u64,
-    pub alive: bool,
+}
+
+// What the search works out of the tables once: where the slots of each entry stand, which entries clash with each, and what prices go by.
+#[derive(Clone, Copy)]
+pub struct Facts {
+    pub spans: SlotSpans,
+    pub clash: [u64; 64],
+    pub rates: Rates,
 }

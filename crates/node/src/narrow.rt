@@ -1,14 +1,13 @@
 // Narrowing a node: only what no plan that is sought has is dropped. Each step keeps that promise whatever the others did, so the order of the steps and the number
 // of rounds are free: the cheap steps come first, and a round that drops nothing is the last.
-ghost use Rattle.std.specs.Prelude.{List, ℕ};
 ghost use Rattle.bitset.specs.Bits.{Member};
-ghost use Rattle.catalogue.specs.declared.Settings.{Settings as Setting};
-ghost use Rattle.catalogue.specs.Spans.{Spans, Bounded};
-ghost use Rattle.catalogue.specs.Survey.{tabled};
-ghost use Rattle.node.specs.declared.Best.{Best as ABest};
-ghost use Rattle.node.specs.Clashing.{Clashes};
-ghost use Rattle.node.specs.Facts.{Facts, Sized};
+ghost use Rattle.pacsolve.specs.Listing.{Asked};
+ghost use Rattle.catalogue.specs.Spans.{Spans};
+ghost use Rattle.plan.specs.declared.Problem.{Problem as LentProblem};
+ghost use Rattle.plan.specs.Posing.{problem_by};
+ghost use Rattle.node.specs.Facts.{FactsFor};
 ghost use Rattle.node.specs.Steps.{Settled};
+ghost use Rattle.node.specs.Sought.{limit_of};
 ghost use Rattle.node.specs.Narrowing.{Ready, Narrowed};
 
 use crate::afford::afford;
@@ -17,138 +16,83 @@ use crate::forced_arrows::forced_arrows;
 use crate::grounded::grounded;
 use crate::settle::settle;
 use crate::within_reach::within_reach;
-use crate::{Best, Node};
-use catalogue::Settings;
-use price::Scale;
+use crate::{Facts, Limit, Node};
+use catalogue::spans::SlotSpans;
+use plan::Problem;
 
 // Rounds after which a node is taken as it is. Each but the last drops something, and few drop something to the end.
 const ROUNDS: u32 = 64;
 
-// Whether two nodes have the same must and ban.
-fn same(a: Node, b: Node) -> bool {
-    if a.must != b.must {
-        return false;
-    }
-    a.ban == b.ban
-}
-
 // What slots with few choices and what clashes tell.
-fn sorted_out(first: &[usize; 65], node: Node, choices: &mut [u64; 256], clash: &[u64; 64]) -> Node
-    requires { Bounded first.now }
-    ensures { (entries slots objectives fits : List ℕ) (settings : Setting) → Spans slots first.now → Clashes entries settings.mode clash.now → Settled (tabled entries slots settings objectives fits) node result choices.old choices.new }
+fn sorted_out(facts: &Facts, node: Node, choices: &mut [u64; 256]) -> Option<Node>
+    ensures { (q : LentProblem) → FactsFor q facts.now → Settled (problem_by q) node result choices.old choices.new }
 {
-    let settled = settle(first, node, choices);
-    let alive = settled.alive;
-    if !alive {
-        return settled;
-    }
-    clash_banned(settled, clash)
+    let settled = settle(&facts.spans, node, choices)?;
+    clash_banned(settled, &facts.clash)
 }
 
 // What the walks of a plan tell: it has no cycles where they are forbidden, and all of it is reached.
 fn walked_through(
-    first: &[usize; 65],
-    settings: Settings,
+    problem: &Problem,
+    spans: &SlotSpans,
     node: Node,
     choices: &mut [u64; 256],
-) -> Node
-    requires { Bounded first.now }
-    ensures { (entries slots objectives fits : List ℕ) → Spans slots first.now → Member node.must settings.root → Settled (tabled entries slots settings objectives fits) node result choices.old choices.new }
+) -> Option<Node>
+    requires spans { Spans problem.now.slots.now spans.now.first }
+    requires rooted { Member node.must problem.now.settings.root }
+    ensures { Settled (problem_by problem.now) node result choices.old choices.new }
 {
-    let standing = grounded(first, settings, node, choices);
-    let stands = standing.alive;
-    if !stands {
-        return standing;
-    }
-    let pointed = forced_arrows(first, settings, standing, choices);
-    let points = pointed.alive;
-    if !points {
-        return pointed;
-    }
-    within_reach(first, pointed, choices)
+    let settings = problem.settings;
+    let standing = grounded(spans, settings, node, choices)?;
+    let pointed = forced_arrows(spans, settings, standing, choices)?;
+    within_reach(spans, pointed, choices)
 }
 
 // One round: as soon as a cheap step drops something, the round is over.
 fn once(
-    slots: &[u16],
-    first: &[usize; 65],
-    settings: Settings,
-    best: Best,
+    problem: &Problem,
+    facts: &Facts,
+    limit: Limit,
     plan: &[u8],
     node: Node,
     choices: &mut [u64; 256],
-    clash: &[u64; 64],
-    alike: &[u64; 64],
-    base: &[u64; 64],
-    scale: Scale,
     price: &mut [u64; 64],
-) -> Node
-    requires { Sized slots.now plan.now alike.now base.now first.now scale }
-    ensures { (entries objectives fits past : List ℕ) (given : ABest) → Ready (tabled entries slots.now settings objectives fits) given past node best plan.now → Facts entries slots.now objectives settings.mode clash.now alike.now base.now first.now scale → Narrowed (tabled entries slots.now settings objectives fits) given past best plan.now node choices.old result choices.new }
+) -> Option<Node>
+    requires ready { Ready (problem_by problem.now) node limit plan.now }
+    requires facts { FactsFor problem.now facts.now }
+    ensures { (q : Asked) → Narrowed (problem_by problem.now) q (limit_of limit plan.now) node choices.old result choices.new }
 {
-    let sorted = sorted_out(first, node, choices, clash);
-    let sorts = sorted.alive;
-    if !sorts {
-        return sorted;
+    let sorted = sorted_out(facts, node, choices)?;
+    if sorted != node {
+        return Some(sorted);
     }
-    if !same(sorted, node) {
-        return sorted;
+    let walked = walked_through(problem, &facts.spans, sorted, choices)?;
+    if walked != sorted {
+        return Some(walked);
     }
-    let walked = walked_through(first, settings, sorted, choices);
-    let walks = walked.alive;
-    if !walks {
-        return walked;
-    }
-    if !same(walked, sorted) {
-        return walked;
-    }
-    afford(
-        slots, first, best, plan, walked, choices, alike, base, scale, price,
-    )
+    afford(problem, facts, limit, plan, walked, choices, price)
 }
 
 pub fn narrow(
-    entries: &[u16],
-    slots: &[u16],
-    first: &[usize; 65],
-    settings: Settings,
-    objectives: &[u8],
-    fits: &[u64; 256],
-    given: Best,
-    past: &[u8],
-    best: Best,
+    problem: &Problem,
+    facts: &Facts,
+    limit: Limit,
     plan: &[u8],
     node: Node,
     choices: &mut [u64; 256],
-    clash: &[u64; 64],
-    alike: &[u64; 64],
-    base: &[u64; 64],
-    scale: Scale,
     price: &mut [u64; 64],
-) -> Node
-    requires ready { Ready (tabled entries.now slots.now settings objectives.now fits.now) given past.now node best plan.now }
-    requires facts { Facts entries.now slots.now objectives.now settings.mode clash.now alike.now base.now first.now scale }
-    ensures { Narrowed (tabled entries.now slots.now settings objectives.now fits.now) given past.now best plan.now node choices.old result choices.new }
+) -> Option<Node>
+    requires ready { Ready (problem_by problem.now) node limit plan.now }
+    requires facts { FactsFor problem.now facts.now }
+    ensures { (q : Asked) → Narrowed (problem_by problem.now) q (limit_of limit plan.now) node choices.old result choices.new }
 {
-    let mut at = Node {
-        must: node.must,
-        ban: node.ban,
-        alive: true,
-    };
-    let mut round: u32 = 0;
-    while round < ROUNDS {
-        let next = once(
-            slots, first, settings, best, plan, at, choices, clash, alike, base, scale, price,
-        );
-        let alive = next.alive;
-        if !alive {
-            return next;
-        }
-        if same(next, at) {
-            return next;
+    let mut at = node;
+    for _ in 0..ROUNDS {
+        let next = once(problem, facts, limit, plan, at, choices, price)?;
+        if next == at {
+            return Some(next);
         }
         at = next;
-        round += 1;
     }
-    at
+    Some(at)
 }

@@ -2,26 +2,19 @@
 ghost use Rattle.basis.specs.Tests.{Decides};
 ghost use Rattle.pacsolve.specs.Cost.{numbers};
 ghost use Rattle.pacsolve.specs.Order.{Earlier};
-ghost use Rattle.node.specs.Order.{Ahead, AheadIf, Sooner};
+ghost use Rattle.node.specs.Order.{Ahead, AfterGiven, Sooner};
 
+use crate::{Given, Limit};
 use pacsolve::Cost;
 
-// A table that ends before the two differ is not earlier, and nothing is earlier than it.
+// A table that ends before the two differ is not earlier, and nothing is earlier than it; the library's order of slices puts it first.
 pub fn earlier(a: &[u8], b: &[u8]) -> bool
     ensures { Decides result (Earlier a.now b.now) }
 {
-    let mut i = 0;
-    while i < a.len() {
-        if b.len() <= i {
-            return false;
+    for (x, y) in a.iter().zip(b) {
+        if x != y {
+            return x < y;
         }
-        if a[i] < b[i] {
-            return true;
-        }
-        if b[i] < a[i] {
-            return false;
-        }
-        i += 1;
     }
     false
 }
@@ -29,44 +22,31 @@ pub fn earlier(a: &[u8], b: &[u8]) -> bool
 fn cheaper(a: Cost, b: Cost) -> bool
     ensures { Decides result (Earlier (numbers a) (numbers b)) }
 {
-    if a.first != b.first {
-        return a.first < b.first;
-    }
-    if a.second != b.second {
-        return a.second < b.second;
-    }
-    a.third < b.third
+    a < b
 }
 
-// Where neither cost is lower they are equal, and the tables decide.
 fn ahead(a: Cost, s: &[u8], b: Cost, t: &[u8]) -> bool
     ensures { Decides result (Ahead a s.now b t.now) }
 {
-    if cheaper(a, b) {
-        return true;
-    }
-    if cheaper(b, a) {
-        return false;
-    }
-    earlier(s, t)
+    cheaper(a, b) || (a == b && earlier(s, t))
 }
 
-// The same, where it is asked for.
-pub fn ahead_if(on: bool, a: Cost, s: &[u8], b: Cost, t: &[u8]) -> bool
-    ensures { Decides result (AheadIf on a s.now b t.now) }
+// Whether a plan comes after the one that is given, where one is.
+pub fn after_given(given: Option<Given>, cost: Cost, table: &[u8]) -> bool
+    ensures { Decides result (AfterGiven given.entry cost table.now) }
 {
-    if on {
-        return ahead(a, s, b, t);
+    match given {
+        Some(past) => ahead(past.cost, past.plan.table, cost, table),
+        None => true,
     }
-    true
 }
 
-// Before a plan, where one is found; else below a cost.
-pub fn sooner(found: bool, a: Cost, s: &[u8], b: Cost, t: &[u8]) -> bool
-    ensures { Decides result (Sooner found a s.now b t.now) }
+// Whether a plan is below the limit.
+pub fn sooner(limit: Limit, best_table: &[u8], cost: Cost, table: &[u8]) -> bool
+    ensures { Decides result (Sooner limit best_table.now cost table.now) }
 {
-    if found {
-        return ahead(a, s, b, t);
+    match limit {
+        Limit::Under(bound) => cheaper(cost, bound),
+        Limit::Before(best) => ahead(cost, table, best.cost, best_table),
     }
-    cheaper(a, b)
 }

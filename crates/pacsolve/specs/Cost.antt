@@ -1,8 +1,10 @@
--- Weight, count and duplicates of any set, and the cost of a plan (document 01, "Cost").
-use Rattle.std.specs.Prelude.{List, [], ◌∷◌, map, ℕ, zero, suc, ◌-◌, ◌*◌, get_or}
+-- Weight, count and duplicates of any set, and the cost of a plan.
+use Rattle.std.specs.Prelude.{List, [], ◌∷◌, map, ℕ, zero, suc, ◌-◌, ◌*◌, get_or, Option, Some, None}
 use Rattle.basis.specs.Sum.{sum, same}
 use Rattle.bitset.specs.Bits.{bit, count}
 use Rattle.pacsolve.specs.declared.Cost.{Cost}
+use Rattle.pacsolve.specs.declared.Objective.{Objective}
+use Rattle.pacsolve.specs.declared.Objective.TheVariants.{Weight, Dependencies, Duplicates}
 use Rattle.pacsolve.specs.Problem.{Problem}
 
 -- the sum of the members' weights
@@ -27,6 +29,13 @@ amount p set zero = weight_of p set
 amount p set (suc zero) = count set - 1
 amount p set (suc (suc zero)) = duplicates_of p set
 amount p set (suc (suc (suc code))) = 0
+
+-- the objective with a code
+abbrev pub objective_of : ℕ → Option Objective
+objective_of zero = Some Weight
+objective_of (suc zero) = Some Dependencies
+objective_of (suc (suc zero)) = Some Duplicates
+objective_of (suc (suc (suc code))) = None
 
 -- three numbers, in the order of the objectives, 0 where there is none
 unfoldable pub cost : Problem → ℕ → Cost

@@ -1,7 +1,10 @@
--- A plan and the six conditions under which it is sound (document 01, "What a plan is").
+-- A plan and the six conditions under which it is sound.
 use Rattle.std.specs.Prelude.{◌≡◌, List, [], ◌∷◌, ℕ, ◌<◌, get_or}
 use Rattle.basis.specs.Rows.{Row, row}
 use Rattle.bitset.specs.Bits.{Member}
+use Rattle.pacsolve.specs.declared.Condition.{Condition}
+use Rattle.pacsolve.specs.declared.Condition.TheVariants as condition
+use Rattle.pacsolve.specs.declared.Plan.{Plan as LentPlan}
 use Rattle.pacsolve.specs.Problem.{Problem}
 
 -- a set of entries, bit e for entry e, and a table: for each slot the chosen entry, or 255 for none
@@ -14,6 +17,10 @@ none = 255
 
 abbrev pub plan : ℕ → List ℕ → Plan
 plan set table = record { set = set; table = table }
+
+-- the plan that is lent to code
+abbrev pub plan_of : LentPlan → Plan
+plan_of p = plan p.set p.table.now
 
 -- what the table holds for a slot
 abbrev pub chosen : Plan → ℕ → ℕ
@@ -74,3 +81,12 @@ pub record Sound (p : Problem) (P : Plan) : Type 0 where
 abbrev pub faults : Problem → Plan → List Row
 faults p P =
     row 1 (¬ Rooted p P) ∷ row 2 (¬ Reached p P) ∷ row 3 (¬ Named p P) ∷ row 4 (¬ Fitting p P) ∷ row 5 (¬ Consistent p P) ∷ row 6 (¬ Acyclic p P) ∷ []
+
+-- a condition's number
+abbrev pub condition_number : Condition → ℕ
+condition_number condition.Rooted = 1
+condition_number condition.Reached = 2
+condition_number condition.Named = 3
+condition_number condition.Fitting = 4
+condition_number condition.Consistent = 5
+condition_number condition.Acyclic = 6

@@ -1,10 +1,9 @@
 -- The laws of rows of sets: what a store to one row, a link and a pass make of them.
-use mathlib.Core.Path.{◌≡◌, refl, ◌∙◌}
+use mathlib.Core.Path.{◌≡◌, ◌∙◌}
 use mathlib.Core.List.{List}
 use mathlib.Core.Logic.{◌⊎◌, ◌↔◌, inl, inr, ⊎_elim}
-use Prim.Native.Nat.{ℕ, ◌+◌, ◌≤◌, ◌<◌}
-use native.Mathlib.Decide.{ℕ_discrete, dec_lt}
-use native.Mathlib.Nat.{not-suc-le-zero}
+use Prim.Native.Nat.{ℕ, ◌≤◌, ◌<◌}
+use native.Mathlib.Decide.{ℕ_discrete}
 use native.Mathlib.Omega.{arith}
 use lib.Bits.{bit_or}
 use lib.ListN.{length, get_or, set as written, length-set, get_or-eq_default}
@@ -13,7 +12,7 @@ use Rattle.bitset.specs.Bits.{Member}
 use Rattle.bitset.specs.Changes.{With}
 use Rattle.bitset.proofs.Made.{join_members}
 use Rattle.bitset.proofs.Sets.{none_in_empty}
-use Rattle.plan.specs.Closure.{Holds, Links, Through, Passes}
+use Rattle.plan.specs.Closure.{Holds, Links, Through}
 
 -- a row past the end holds nothing
 pub past_end : (rows : List ℕ) (d e : ℕ) → length rows ≤ d → ¬ Holds rows d e
@@ -67,55 +66,8 @@ module _ {row k via : ℕ} where
         holds = λ e. (λ x. ⊎_elim (λ y. inl y) (λ y. inr (m, y)) ((join_members row via e).0 x), λ x. (join_members row via e).1 (⊎_elim (λ y. inl y) (λ y. inr y.1) x));
       }
 
-  pub through_no : ¬ Member row k → Through row k via row
-  through_no n = record { holds = λ e. (λ x. inl x, λ x. ⊎_elim (λ y. y) (λ y. absurd (n y.0)) x) }
-
 -- a pass by way of k at its row d: the rows before d are done, the others as they were
 pub record Passing (before : List ℕ) (k d : ℕ) (rows : List ℕ) : Type 0 where
   pub size : length rows ≡ 64
   pub done : (c : ℕ) → c < d → (e : ℕ) → Holds rows c e ↔ (Holds before c e ⊎ (Holds before c k × Holds before k e))
   pub kept : (c : ℕ) → d ≤ c → get_or rows c 0 ≡ get_or before c 0
-
-pub pass_start : (before : List ℕ) (k : ℕ) → length before ≡ 64 → Passing before k 0 before
-pass_start before k h = record { size = h; done = λ c l. absurd (not-suc-le-zero l); kept = λ c l. refl }
-
-module _ {before rows : List ℕ} {k d : ℕ} (g : Passing before k d rows) where
-  pub pass_on : {r : ℕ} → d < 64 → Through (get_or rows d 0) k (get_or before k 0) r → Passing before k (d + 1) (written rows d r)
-  pass_on {r} h t =
-      record {
-        size = length-set rows d r ∙ g.size;
-        done = λ c l e. at c e (ℕ_discrete c d) l;
-        kept = λ c l. get_or-set_other rows d c r 0 (λ p. omega arith) ∙ g.kept c (omega arith);
-      }
-    where
-      below : d < length rows
-      below = omega (arith, g.size)
-
-      same : (e : ℕ) → Member (get_or rows d 0) e → Holds before d e
-      same e m = rw (← (g.kept d (omega arith))) m
-
-      back : (e : ℕ) → Holds before d e → Member (get_or rows d 0) e
-      back e m = rw (g.kept d (omega arith)) m
-
-      here : (e : ℕ) → Member r e ↔ (Holds before d e ⊎ (Holds before d k × Holds before k e))
-      here e = (
-        λ m. ⊎_elim (λ x. inl (same e x)) (λ x. inr (same k x.0, x.1)) ((t.holds e).0 m),
-        λ x. (t.holds e).1 (⊎_elim (λ m. inl (back e m)) (λ m. inr (back k m.0, m.1)) x),
-      )
-
-      at : (c e : ℕ) → Dec (c ≡ d) → c < d + 1 → Holds (written rows d r) c e ↔ (Holds before c e ⊎ (Holds before c k × Holds before k e))
-      at c e (yes p) l =
-          rw p (λ m. (here e).0 ((stored_here rows d r below d e refl).0 m), λ x. (stored_here rows d r below d e refl).1 ((here e).1 x))
-      at c e (no n) l =
-          let old = g.done c (omega arith) e in
-          (λ m. old.0 ((stored_elsewhere rows d r c e n).0 m), λ x. (stored_elsewhere rows d r c e n).1 (old.1 x))
-
-  pub pass_end : length before ≡ 64 → 64 ≤ d → Passes k before rows
-  pass_end size h = record { size = g.size; holds = λ c e. at c e (dec_lt c d) }
-    where
-      at : (c e : ℕ) → Dec (c < d) → Holds rows c e ↔ (Holds before c e ⊎ (Holds before c k × Holds before k e))
-      at c e (yes l) = g.done c l e
-      at c e (no n) = (
-        λ m. absurd (past_end rows c e (omega (arith, g.size)) m),
-        λ x. ⊎_elim (λ m. absurd (past_end before c e (omega arith) m)) (λ m. absurd (past_end before c k (omega arith) m.0)) x,
-      )

@@ -2,14 +2,13 @@
 pub mod Amounts
 pub mod Carried
 pub mod Closing
+pub mod Every
 pub mod Faults
-pub mod MemberWalk
 pub mod Outcome
 pub mod PairTests
 pub mod Reaching
 pub mod Repeated
 pub mod SlotTests
-pub mod Subsets
 pub mod Tables
 pub mod Totals
 pub mod Trails

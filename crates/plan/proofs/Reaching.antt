@@ -1,8 +1,8 @@
 -- The laws of what is reached from the root: what one slot adds, what a round adds, and that what a round adds nothing to is all that is reached.
 use mathlib.Core.Path.{◌≡◌, refl, sym}
 use mathlib.Core.Logic.{◌⊎◌, inl, inr}
-use Prim.Native.Nat.{ℕ, ◌+◌, ◌≤◌, ◌<◌}
-use native.Mathlib.Nat.{not-suc-le-zero, lt_of_lt_of_le}
+use Prim.Native.Nat.{ℕ, ◌+◌, ◌<◌}
+use native.Mathlib.Nat.{not-suc-le-zero}
 use native.Mathlib.Numerals.{add-one}
 use lib.Dec.{eqb}
 use Rattle.basis.specs.Tests.{Decides}
@@ -70,14 +70,6 @@ module _ (p : Problem) (P : Plan) where
           record { slot = k; there = h; its = refl; names = sym x.1; from = walk_member (w led.0 led.1) led.2; to = x.2 } in
           (led.0, led.1, on led.2 step)
 
-  pub round_end : {reach k next : ℕ} → p.slots ≤ k → Rounding reach k next → Rounds p P reach next
-  round_end {reach} {k} {next} h g =
-      record {
-        kept = g.kept;
-        stepped = λ d e m s. rw (← s.names) (g.passed s.slot (lt_of_lt_of_le s.there h) (rw s.its m) (rw s.names s.to));
-        led = g.led;
-      }
-
   -- what is reached so far: the root, a member, and nothing that no walk leads to
   pub record Reaching (reach : ℕ) : Type 0 where
     pub root : Member reach p.root
@@ -101,10 +93,6 @@ module _ (p : Problem) (P : Plan) where
         all : {e : ℕ} → Walk p P p.root e → Member reach e
         all here = g.root
         all (on {e = d} {f = e} w s) = r.stepped d e (all w) s
-
-  -- where the root is no member, nothing is reached
-  pub grown_none : ¬ MemberOf P p.root → Grown p P 0
-  grown_none n = record { sure = λ e m. absurd (none_in_empty e m); full = λ m. absurd (n m) }
 
   -- every member is reached exactly if what is reached is the whole set
   pub reached_by_grown : (r : ℕ) → Grown p P r → Decides (eqb r P.set) (Reached p P)

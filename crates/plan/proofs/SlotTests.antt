@@ -1,16 +1,22 @@
--- What tells conditions 3 and 4 at one slot, by whether its owner is a member.
-use mathlib.Core.Path.{◌≡◌}
+-- What tells condition 3, by every slot, and that nothing stands for no choice.
 use mathlib.Core.Bool.{Bool}
-use Prim.Native.Nat.{ℕ}
+use Prim.Native.Nat.{ℕ, ◌^◌, ◌<◌}
+use native.Mathlib.Omega.{arith}
 use Rattle.basis.specs.Tests.{Decides}
 use Rattle.basis.proofs.Decide.{decides_by}
 use Rattle.bitset.specs.Bits.{Member}
-use Rattle.pacsolve.specs.Plan.{none}
+use Rattle.bitset.proofs.Sets.{member_below}
+use Rattle.pacsolve.specs.Problem.{Problem}
+use Rattle.pacsolve.specs.Plan.{Plan, none, Named}
 use Rattle.plan.specs.Slots.{NamedAt}
 
-module _ {b : Bool} {set owner choice : ℕ} where
-  pub named_of_member : Member set owner → Decides b (Member set choice) → Decides b (NamedAt set owner choice)
-  named_of_member m d = decides_by (λ x. record { filled = λ o. x; empty = λ n. absurd (n m) }) (λ x. x.filled m) d
+pub named_by_slots : {b : Bool} (p : Problem) (P : Plan) → Decides b ((s : ℕ) → s < p.slots → NamedAt p P s) → Decides b (Named p P)
+named_by_slots p P d =
+    decides_by
+    (λ f. record { filled = λ s h. (f s h).filled; empty = λ s h. (f s h).empty })
+    (λ n s h. record { filled = n.filled s h; empty = n.empty s h })
+    d
 
-  pub named_of_other : ¬ Member set owner → Decides b (choice ≡ none) → Decides b (NamedAt set owner choice)
-  named_of_other n d = decides_by (λ x. record { filled = λ m. absurd (n m); empty = λ o. x }) (λ x. x.empty n) d
+-- a set has no place for what a slot holds that nothing is chosen for
+pub none_no_member : (set : ℕ) → set < 2 ^ 64 → ¬ Member set none
+none_no_member set h m = omega (arith, member_below 64 set none h m)

@@ -1,19 +1,20 @@
--- Sums over the members of a set, added up along a walk through them, the lowest first.
+-- Sums over the members of a set that are below a bound, added up along a walk through them, the lowest first.
 use mathlib.Core.Path.{◌≡◌, refl, sym, ap, ◌∙◌}
 use mathlib.Core.List.{List}
 use mathlib.Core.Logic.{◌⊎◌, inl, inr}
-use Prim.Native.Nat.{ℕ, zero, suc, ◌+◌, ◌*◌, ◌^◌, ◌≤◌, ◌<◌, min}
-use native.Mathlib.Decide.{ℕ_discrete, dec_le}
-use native.Mathlib.Nat.{zero-mul, one-mul, zero-add}
+use Prim.Native.Nat.{ℕ, zero, suc, ◌+◌, ◌*◌, ◌^◌, ◌≤◌, ◌<◌}
+use native.Mathlib.Decide.{ℕ_discrete}
+use native.Mathlib.Nat.{zero-mul, zero-add, mul-le-mul_right}
 use native.Mathlib.Omega.{arith}
 use lib.ListN.{get_or}
 use Rattle.basis.specs.Sum.{sum}
-use Rattle.basis.proofs.Sums.{sum_bound, sum_changed, sum_zero, term_le}
-use Rattle.bitset.specs.Bits.{bit, Member, count, Lowest}
-use Rattle.bitset.specs.Changes.{Without}
-use Rattle.bitset.specs.Search.{LowestOr64}
+use Rattle.basis.proofs.Sums.{sum_bound, sum_changed, sum_same, sum_zero}
+use Rattle.bitset.specs.Bits.{bit, Member, count}
+use Rattle.bitset.specs.Walk.{Parts}
+use Rattle.bitset.specs.declared.Rising.{Rising}
+use Rattle.bitset.proofs.Counts.{count_le}
 use Rattle.bitset.proofs.Sets.{bit_cases, bit_of_none, member_below, below_by_members, none_in_empty}
-use Rattle.plan.proofs.Subsets.{left_within, left_other, left_kept, left_count}
+use Rattle.bitset.proofs.Subsets.{left_within, left_other, left_kept, left_count}
 
 -- two sets that have or have not a number as a member have the same bit for it
 bit_same : (a b e : ℕ) → (Member a e → Member b e) → (Member b e → Member a e) → bit a e ≡ bit b e
@@ -51,58 +52,49 @@ sum_further f m (suc n) h z = go (ℕ_discrete m (suc n)) (λ l. sum_further f m
     go (yes e) rest = rw e refl
     go (no k) rest = omega (arith, rest (omega arith), z n (omega arith))
 
--- a 64-bit set has no members from 64 on
-pub over_nameable : (g : ℕ → ℕ) (set n : ℕ) → set < 2 ^ 64 → over g set (min n 64) ≡ over g set n
-over_nameable g set n h = go (dec_le n 64)
-  where
-    none : (e : ℕ) → 64 ≤ e → bit set e * g e ≡ 0
-    none e l = rw (bit_of_none set e (λ m. omega (arith, member_below 64 set e h m))) (zero-mul (g e))
-
-    go : Dec (n ≤ 64) → over g set (min n 64) ≡ over g set n
-    go (yes l) = let e : min n 64 ≡ n = omega arith in ap (over g set) e
-    go (no k) = let e : min n 64 ≡ 64 = omega arith in ap (over g set) e ∙ sym (sum_further (λ d. bit set d * g d) 64 n (omega arith) none)
-
--- a walk through the members below n at its member e: what was added up, with what is left to add, is the sum over the set
-pub record Adding (g : ℕ → ℕ) (set n total rest e : ℕ) : Type 0 where
+-- a walk through the members, where those below n are added up, each by a number below 2 ^ 16: what was added up, with what is left to add, is the sum over the set, by
+-- whatever g the numbers are by
+pub record Adding (By : (ℕ → ℕ) → Type 0) (set n total rest : ℕ) : Type 0 where
   pub fits : rest < 2 ^ 64
-  pub low : LowestOr64 rest e
-  pub adds : total + over g rest n ≡ over g set n
+  pub bound : total + count rest * 65535 ≤ 64 * 65535
+  pub adds : (g : ℕ → ℕ) → By g → total + over g rest n ≡ over g set n
 
-pub add_start : (g : ℕ → ℕ) (n : ℕ) {set e : ℕ} → set < 2 ^ 64 → LowestOr64 set e → Adding g set n 0 set e
-add_start g n {set} h low = record { fits = h; low = low; adds = zero-add (over g set n) }
+pub add_start : {set : ℕ} {walk made : Rising} (By : (ℕ → ℕ) → Type 0) (n : ℕ) → walk ≡ made → made.rest ≡ set → set < 2 ^ 64 → Adding By set n 0 walk.rest
+add_start {set = set} By n w s h =
+    rw (ap (λ x. x.rest) w ∙ s)
+    (record { fits = h; bound = omega (arith, mul-le-mul_right 65535 (count_le set)); adds = λ g b. zero-add (over g set n) })
 
-module _ {g : ℕ → ℕ} {set n total rest e : ℕ} (a : Adding g set n total rest e) where
-  pub add_end : n ≤ e → total ≡ over g set n
-  add_end h = let z : over g rest n ≡ 0 = sum_zero (λ d. bit rest d * g d) n (λ d l. rw (bit_of_none rest d (none d l (ℕ_discrete rest 0))) (zero-mul (g d))) in omega (arith, a.adds)
-    where
-      none : (d : ℕ) → d < n → Dec (rest ≡ 0) → ¬ Member rest d
-      none d l (yes z) m = none_in_empty d (rw z at m)
-      none d l (no k) m = (a.low.some k).least d (omega arith) m
+module _ {By : (ℕ → ℕ) → Type 0} {set n total rest : ℕ} (a : Adding By set n total rest) where
+  pub add_end : rest ≡ 0 → (g : ℕ → ℕ) → By g → total ≡ over g set n
+  add_end z g b =
+      let none : over g rest n ≡ 0 = sum_zero (λ d. bit rest d * g d) n (λ d l. rw (z, bit_of_none 0 d (none_in_empty d)) (zero-mul (g d))) in
+      omega (arith, none, a.adds g b)
 
-  module _ (few : n ≤ 64) (h : e < n) where
-    add_lowest : Lowest rest e
-    add_lowest = a.low.some (λ z. omega (arith, a.low.none z))
+  module _ {e less : ℕ} (p : Parts rest e less) where
+    left_fits : less < 2 ^ 64
+    left_fits = below_by_members 64 less (λ d m. member_below 64 rest d a.fits (left_within a.fits p.lowest p.rest d m))
 
-    -- what is added up stays within the sum over the set
-    pub add_within : total + g e ≤ over g set n
-    add_within =
-        let term : g e ≤ over g rest n = omega (arith, term_le (λ d. bit rest d * g d) n e h, ap (λ (b : ℕ). b * g e) add_lowest.member, one-mul (g e)) in
-        omega (arith, a.adds)
+    -- what is left counts one less
+    left_bound : count less * 65535 + 65535 ≤ count rest * 65535
+    left_bound = omega (arith, mul-le-mul_right 65535 (left_count a.fits p.lowest p.rest))
 
-    module _ {less : ℕ} (w : Without rest e less) where
-      pub add_count : count less < count rest
-      add_count = left_count a.fits add_lowest w
+    same_bit : (d : ℕ) → ¬ (d ≡ e) → bit rest d ≡ bit less d
+    same_bit d k = bit_same rest less d (λ m. left_kept a.fits p.lowest p.rest d m k) (left_within a.fits p.lowest p.rest d)
 
-      over_less : over g rest n ≡ over g less n + g e
-      over_less =
-          sum_changed (λ d. bit rest d * g d) (λ d. bit less d * g d) n e (g e) h
-          (rw (add_lowest.member, bit_of_none less e (λ m. left_other a.fits add_lowest w e m refl)) (omega arith))
-          (λ d k. ap (λ (x : ℕ). x * g d) (bit_same rest less d (λ m. left_kept a.fits add_lowest w d m k) (left_within a.fits add_lowest w d)))
+    over_more : (g : ℕ → ℕ) → e < n → over g rest n ≡ over g less n + g e
+    over_more g h =
+        sum_changed (λ d. bit rest d * g d) (λ d. bit less d * g d) n e (g e) h
+        (rw (p.lowest.member, bit_of_none less e (λ m. left_other a.fits p.lowest p.rest e m refl)) (omega arith))
+        (λ d k. ap (λ (x : ℕ). x * g d) (same_bit d k))
 
-      pub add_on : {e' : ℕ} → LowestOr64 less e' → Adding g set n (total + g e) less e'
-      add_on low =
-          record {
-            fits = below_by_members 64 less (λ d m. member_below 64 rest d a.fits (left_within a.fits add_lowest w d m));
-            low = low;
-            adds = omega (arith, a.adds, over_less);
-          }
+    over_same : (g : ℕ → ℕ) → n ≤ e → over g rest n ≡ over g less n
+    over_same g h = sum_same (λ d. bit rest d * g d) (λ d. bit less d * g d) n (λ d l. ap (λ (x : ℕ). x * g d) (same_bit d (λ k. omega arith)))
+
+    -- a member below n adds its number, which fits
+    pub add_on : {r : ℕ} → e < n → r < 2 ^ 16 → ((g : ℕ → ℕ) → By g → r ≡ g e) → Adding By set n (total + r) less
+    add_on {r} h small by =
+        record { fits = left_fits; bound = omega (arith, a.bound, left_bound); adds = λ g b. omega (arith, a.adds g b, over_more g h, by g b) }
+
+    -- any other adds nothing
+    pub add_skip : n ≤ e → Adding By set n total less
+    add_skip h = record { fits = left_fits; bound = omega (arith, a.bound, left_bound); adds = λ g b. omega (arith, a.adds g b, over_same g h) }

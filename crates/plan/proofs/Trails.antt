@@ -13,13 +13,12 @@ use lib.ListN.{length, replicate, length-replicate, get_or-replicate}
 use Rattle.basis.specs.Tests.{Decides}
 use Rattle.basis.proofs.Decide.{below_suc, decides_by}
 use Rattle.bitset.specs.Bits.{Member}
-use Rattle.bitset.specs.Changes.{Without}
-use Rattle.bitset.specs.Search.{LowestOr64}
+use Rattle.bitset.specs.Walk.{Parts}
 use Rattle.bitset.proofs.Sets.{none_in_empty}
 use Rattle.pacsolve.specs.Problem.{Problem}
 use Rattle.pacsolve.specs.Plan.{Plan, chosen, MemberOf, Step, Walk, here, on, Acyclic}
 use Rattle.pacsolve.proofs.Walks.{Trail, Hop, hop_trail, step_hop, hop_join}
-use Rattle.plan.specs.Closure.{Holds, Links, Passes, Steps, Trails}
+use Rattle.plan.specs.Closure.{Holds, Links, Passes, Trails}
 use Rattle.plan.proofs.Closing.{past_end}
 use Rattle.plan.proofs.Reaching.{walk_member}
 
@@ -76,15 +75,6 @@ module _ (p : Problem) (P : Plan) where
           inr (sym its, sym names, (rw its x.from, rw names x.to))
       from d e x (inr q) = inl ((g.holds d e).1 (record { slot = x.slot; before = q; its = x.its; names = x.names; from = x.from; to = x.to }))
 
-  pub link_end : {k : ℕ} {rows : List ℕ} → p.slots ≤ k → Linking k rows → Steps p P rows
-  link_end {k} {rows} h g = record { size = g.size; holds = λ d e. (λ m. to d e ((g.holds d e).0 m), λ s. (g.holds d e).1 (from d e s)) }
-    where
-      to : (d e : ℕ) → Linked k d e → Step p P d e
-      to d e x = record { slot = x.slot; there = omega (arith, x.before, g.inside); its = x.its; names = x.names; from = x.from; to = x.to }
-
-      from : (d e : ℕ) → Step p P d e → Linked k d e
-      from d e s = record { slot = s.slot; before = omega (arith, s.there); its = s.its; names = s.names; from = s.from; to = s.to }
-
   -- a trail ends at a member
   trail_member : {d e : ℕ} → Trail p P d e → MemberOf P e
   trail_member t = walk_member p P t.first.to t.rest
@@ -108,9 +98,6 @@ module _ (p : Problem) (P : Plan) where
     pub passed : (e : ℕ) → MemberOf P e → (e < bound) ⊎ Member rest e
     pub left : (e : ℕ) → Member rest e → bound ≤ e
 
-  pub close_start : {rows : List ℕ} → Steps p P rows → Closing P.set rows
-  close_start s = record { size = s.size; bound = 0; holds = s.holds; passed = λ e m. inr m; left = λ e m. zero-le }
-
   pub close_end : {rest : ℕ} {rows : List ℕ} → Closing rest rows → rest ≡ 0 → Trails p P rows
   close_end {rest} {rows} g z = record { size = g.size; holds = λ d e. (λ m. trail d e (hop_trail p P g.bound d e ((g.holds d e).0 m)), λ t. (g.holds d e).1 (hop t.1 t.2)) }
     where
@@ -124,7 +111,7 @@ module _ (p : Problem) (P : Plan) where
       hop {d} {v} s here = step_hop p P g.bound d v s
       hop {d} s (on {e = e} {f = f} w t) = hop_join p P g.bound d e f (below e t.from) (hop s w) (step_hop p P g.bound e f t)
 
-  module _ {rest k less : ℕ} {rows more : List ℕ} (low : LowestOr64 rest k) (some : ¬ (rest ≡ 0)) (w : Without rest k less) (fits : k < 64) where
+  module _ {rest k less : ℕ} {rows more : List ℕ} (parts : Parts rest k less) (fits : k < 64) where
     pub close_on : Closing rest rows → Passes k rows more → Closing less more
     close_on g x =
         record {
@@ -132,14 +119,14 @@ module _ (p : Problem) (P : Plan) where
           bound = suc k;
           holds = λ d e. (λ m. to d e ((x.holds d e).0 m), λ h. (x.holds d e).1 (from d e h));
           passed = λ e m. at e (g.passed e m) (ℕ_discrete e k);
-          left = λ e m. above e ((w.members fits e).0 m);
+          left = λ e m. above e ((parts.rest.members fits e).0 m);
         }
       where
         start : g.bound ≤ k
-        start = g.left k (low.some some).member
+        start = g.left k parts.lowest.member
 
         none : (j : ℕ) → g.bound ≤ j → j < k → ¬ MemberOf P j
-        none j l h m = ⊎_elim (λ b. omega (arith, b)) (λ r. (low.some some).least j h r) (g.passed j m)
+        none j l h m = ⊎_elim (λ b. omega (arith, b)) (λ r. parts.lowest.least j h r) (g.passed j m)
 
         is : (d e : ℕ) → Holds rows d e → Hop p P k d e
         is d e m = (hop_skip g.bound k d e start none).1 ((g.holds d e).0 m)
@@ -158,13 +145,13 @@ module _ (p : Problem) (P : Plan) where
         at : (e : ℕ) → (e < g.bound) ⊎ Member rest e → Dec (e ≡ k) → (e < suc k) ⊎ Member less e
         at e y (yes q) = inl (omega arith)
         at e (inl l) (no n) = inl (omega (arith, start))
-        at e (inr m) (no n) = inr ((w.members fits e).1 (m, n))
+        at e (inr m) (no n) = inr ((parts.rest.members fits e).1 (m, n))
 
         above : (e : ℕ) → Member rest e × ¬ (e ≡ k) → suc k ≤ e
         above e m = go (dec_lt e k)
           where
             go : Dec (e < k) → suc k ≤ e
-            go (yes l) = absurd ((low.some some).least e l m.0)
+            go (yes l) = absurd (parts.lowest.least e l m.0)
             go (no n) = omega (arith, m.1)
 
   -- no walk of one step or more returns exactly if no row holds its own entry

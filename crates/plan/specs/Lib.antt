@@ -4,5 +4,6 @@ pub mod Closure
 pub mod Growth
 pub mod Judged
 pub mod Pairs
+pub mod Posing
 pub mod Repeats
 pub mod Slots

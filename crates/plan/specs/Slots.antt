@@ -1,18 +1,17 @@
--- What conditions 3 and 4 ask at one slot, in numbers: the set, the slot's owner, the entry chosen for it and the set of the entries that fit it.
-use Rattle.std.specs.Prelude.{◌≡◌, List, ℕ, ◌/◌, ◌≤◌, ◌<◌, length}
-use Rattle.bitset.specs.Bits.{Member}
-use Rattle.pacsolve.specs.Plan.{none}
-use Rattle.catalogue.specs.Tables.{slot_width}
+-- What a plan chooses for a slot, and what conditions 3 and 4 ask there.
+use Rattle.std.specs.Prelude.{◌≡◌, ℕ, ◌<◌, Option, MatchOption}
+use Rattle.pacsolve.specs.Problem.{Problem}
+use Rattle.pacsolve.specs.Plan.{Plan, MemberOf, chosen, none}
+
+-- r is the entry that is chosen for slot s, if one is
+abbrev pub Chooses : Plan → ℕ → Option ℕ → Type 0
+Chooses P s r = MatchOption r (chosen P s ≡ none) (λ e. (chosen P s ≡ e) × ¬ (e ≡ none))
 
 -- 3: a slot of a member names a member; each other slot holds 255
-pub record NamedAt (set owner choice : ℕ) : Type 0 where
-  pub filled : Member set owner → Member set choice
-  pub empty : ¬ Member set owner → choice ≡ none
+pub record NamedAt (p : Problem) (P : Plan) (s : ℕ) : Type 0 where
+  pub filled : MemberOf P (p.owner s) → MemberOf P (chosen P s)
+  pub empty : ¬ MemberOf P (p.owner s) → chosen P s ≡ none
 
 -- 4: a slot of a member names one of the entries, which fits
-abbrev pub FittingAt : ℕ → ℕ → ℕ → ℕ → ℕ → Type 0
-FittingAt entries set fits owner choice = Member set owner → (choice < entries) × Member fits choice
-
--- as many slots as there are sets of entries that fit
-pub record FewSlots (slots : List ℕ) : Type 0 where
-  pub few : length slots / slot_width ≤ 256
+abbrev pub FittingAt : Problem → Plan → ℕ → Type 0
+FittingAt p P s = MemberOf P (p.owner s) → (chosen P s < p.entries) × p.fits s (chosen P s)

@@ -1,95 +1,64 @@
 // Conditions 1, 3 and 4: the set is rooted, its slots are named and what they name fits.
-ghost use Rattle.std.specs.Prelude.{List, ℕ, ◌+◌, ◌*◌, ◌/◌, ◌<◌, get_or, length};
+ghost use Rattle.std.specs.Prelude.{ℕ, ◌<◌};
 ghost use Rattle.basis.specs.Tests.{Decides};
 ghost use Rattle.bitset.specs.Bits.{Member};
-ghost use Rattle.pacsolve.specs.Plan.{plan, Rooted, Named, Fitting};
-ghost use Rattle.catalogue.specs.declared.Settings.{Settings as Setting};
-ghost use Rattle.catalogue.specs.Survey.{tabled};
-ghost use Rattle.plan.specs.Slots.{NamedAt, FittingAt, FewSlots};
+ghost use Rattle.pacsolve.specs.Plan.{plan_of, Rooted, Named, Fitting};
+ghost use Rattle.plan.specs.Posing.{problem_by};
+ghost use Rattle.plan.specs.Slots.{NamedAt, FittingAt};
 
-use crate::fields;
-use catalogue::Settings;
+use crate::{Problem, fields};
+use pacsolve::Plan;
 
 // Whether a set names only entries below n.
 fn below(set: u64, n: usize) -> bool
     ensures { Decides result ((e : ℕ) → Member set e → e < n) }
 {
-    if n < 64 {
-        return set >> n == 0;
-    }
-    true
+    n >= 64 || set >> n == 0
 }
 
 // Condition 1: the set names only existing entries and holds the root.
-pub fn rooted(entries: &[u16], settings: Settings, set: u64) -> bool
-    ensures { (slots objectives fits table : List ℕ) → Decides result (Rooted (tabled entries.now slots settings objectives fits) (plan set table)) }
+pub fn rooted(problem: &Problem, plan: &Plan) -> bool
+    ensures { Decides result (Rooted (problem_by problem.now) (plan_of plan.now)) }
 {
-    if !below(set, entries.len() / 5) {
-        return false;
-    }
-    bitset::has(set, settings.root as u32)
+    below(plan.set, problem.entries.len() / 5)
+        && bitset::has(plan.set, u32::from(problem.settings.root))
 }
 
 // Condition 3 at slot s.
-fn named_at(slots: &[u16], set: u64, table: &[u8], s: usize) -> bool
-    ensures { Decides result (NamedAt set (get_or slots.now (s * 4 + 0) 0) (get_or table.now s 255)) }
+fn named_at(problem: &Problem, plan: &Plan, s: usize) -> bool
+    ensures { Decides result (NamedAt (problem_by problem.now) (plan_of plan.now) s) }
 {
-    let choice = fields::choice(table, s);
-    if bitset::has(set, fields::owner(slots, s)) {
-        return bitset::has(set, choice);
+    let owned = bitset::has(plan.set, fields::owner(problem.slots, s));
+    match fields::choice(plan, s) {
+        Some(e) => owned && bitset::has(plan.set, e),
+        None => !owned,
     }
-    choice == 255
 }
 
 // Condition 3: each slot of a member names a member, and each other slot holds 255.
-pub fn named(slots: &[u16], set: u64, table: &[u8]) -> bool
-    ensures { (entries objectives fits : List ℕ) (settings : Setting) → Decides result (Named (tabled entries slots.now settings objectives fits) (plan set table.now)) }
+pub fn named(problem: &Problem, plan: &Plan) -> bool
+    ensures { Decides result (Named (problem_by problem.now) (plan_of plan.now)) }
 {
-    let n = slots.len() / 4;
-    let mut s = 0;
-    while s < n {
-        if !named_at(slots, set, table, s) {
-            return false;
-        }
-        s += 1;
-    }
-    true
+    (0..problem.slots.len() / 4).all(|s| named_at(problem, plan, s))
 }
 
 // Condition 4 at slot s.
-fn fitting_at(
-    entries: &[u16],
-    slots: &[u16],
-    fits: &[u64; 256],
-    set: u64,
-    table: &[u8],
-    s: usize,
-) -> bool
-    requires { s < 256 }
-    ensures { Decides result (FittingAt (length entries.now / 5) set (get_or fits.now s 0) (get_or slots.now (s * 4 + 0) 0) (get_or table.now s 255)) }
+fn fitting_at(problem: &Problem, plan: &Plan, s: usize) -> bool
+    ensures { Decides result (FittingAt (problem_by problem.now) (plan_of plan.now) s) }
 {
-    if !bitset::has(set, fields::owner(slots, s)) {
+    if !bitset::has(plan.set, fields::owner(problem.slots, s)) {
         return true;
     }
-    let choice = fields::choice(table, s);
-    if choice as usize >= entries.len() / 5 {
-        return false;
+    let fits = fields::fitting_set(problem.fits, s);
+    match fields::choice(plan, s) {
+        Some(e) => (e as usize) < problem.entries.len() / 5 && bitset::has(fits, e),
+        None => false,
     }
-    bitset::has(fields::fitting_set(fits, s), choice)
 }
 
 // Condition 4: each slot of a member names an entry that fits it.
-pub fn fitting(entries: &[u16], slots: &[u16], fits: &[u64; 256], set: u64, table: &[u8]) -> bool
-    requires { FewSlots slots.now }
-    ensures { (objectives : List ℕ) (settings : Setting) → Decides result (Fitting (tabled entries.now slots.now settings objectives fits.now) (plan set table.now)) }
+pub fn fitting(problem: &Problem, plan: &Plan) -> bool
+    ensures { Decides result (Fitting (problem_by problem.now) (plan_of plan.now)) }
 {
-    let n = slots.len() / 4;
-    let mut s = 0;
-    while s < n {
-        if !fitting_at(entries, slots, fits, set, table, s) {
-            return false;
-        }
-        s += 1;
-    }
-    true
+    (0..problem.slots.len() / 4).all(|s| fitting_at(problem, plan, s))
 }

@@ -1,62 +1,42 @@
 // A plan of a catalogue that is not refused: the first of the six conditions that it breaks, or its cost.
-ghost use Rattle.std.specs.Prelude.{List, ℕ};
-ghost use Rattle.pacsolve.specs.Plan.{plan};
-ghost use Rattle.catalogue.specs.Survey.{tabled};
+ghost use Rattle.pacsolve.specs.Plan.{plan_of};
 ghost use Rattle.plan.specs.Judged.{FirstFault, Judges};
-ghost use Rattle.plan.specs.Slots.{FewSlots};
+ghost use Rattle.plan.specs.Posing.{problem_by};
 
-use crate::{Checked, conditions, costs, cycles, packages, walks};
-use catalogue::Settings;
+use crate::{Problem, conditions, costs, cycles, packages, walks};
+use pacsolve::{Condition, Cost, Plan};
 
-// The number of the first condition that the plan breaks, 0 where it breaks none.
-pub fn first_fault(
-    entries: &[u16],
-    slots: &[u16],
-    settings: Settings,
-    fits: &[u64; 256],
-    set: u64,
-    table: &[u8],
-) -> u8
-    requires { FewSlots slots.now }
-    ensures { (objectives : List ℕ) → FirstFault (tabled entries.now slots.now settings objectives fits.now) (plan set table.now) result }
+// The first condition that the plan breaks.
+pub fn first_fault(problem: &Problem, plan: &Plan) -> Option<Condition>
+    ensures { FirstFault (problem_by problem.now) (plan_of plan.now) result }
 {
-    if !conditions::rooted(entries, settings, set) {
-        return 1;
+    if !conditions::rooted(problem, plan) {
+        return Some(Condition::Rooted);
     }
-    if !walks::reached(slots, settings, set, table) {
-        return 2;
+    if !walks::reached(problem, plan) {
+        return Some(Condition::Reached);
     }
-    if !conditions::named(slots, set, table) {
-        return 3;
+    if !conditions::named(problem, plan) {
+        return Some(Condition::Named);
     }
-    if !conditions::fitting(entries, slots, fits, set, table) {
-        return 4;
+    if !conditions::fitting(problem, plan) {
+        return Some(Condition::Fitting);
     }
-    if !packages::consistent(entries, settings, set) {
-        return 5;
+    if !packages::consistent(problem.entries, problem.settings, plan.set) {
+        return Some(Condition::Consistent);
     }
-    if !cycles::acyclic(slots, settings, set, table) {
-        return 6;
+    if !cycles::acyclic(problem, plan) {
+        return Some(Condition::Acyclic);
     }
-    0
+    None
 }
 
-// The first condition that the plan breaks, or its cost.
-pub fn judge(
-    entries: &[u16],
-    slots: &[u16],
-    settings: Settings,
-    objectives: &[u8],
-    fits: &[u64; 256],
-    set: u64,
-    table: &[u8],
-) -> Checked
-    requires { FewSlots slots.now }
-    ensures { Judges (tabled entries.now slots.now settings objectives.now fits.now) set table.now result }
+// The plan's cost, or the first condition that it breaks.
+pub fn judge(problem: &Problem, plan: &Plan) -> Result<Cost, Condition>
+    ensures { Judges (problem_by problem.now) plan.now.set plan.now.table.now result }
 {
-    let fault = first_fault(entries, slots, settings, fits, set, table);
-    if fault != 0 {
-        return Checked::Broken(fault);
+    match first_fault(problem, plan) {
+        Some(condition) => Err(condition),
+        None => Ok(costs::cost(problem.entries, problem.objectives, plan.set)),
     }
-    Checked::Sound(costs::cost(entries, objectives, set))
 }

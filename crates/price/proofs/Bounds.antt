@@ -7,13 +7,16 @@ use native.Mathlib.Decide.{dec_lt}
 use native.Mathlib.Nat.{mul-zero, zero-mul, mul-add, add-mul, mul_comm, mul_left_comm, mul-suc, mul-le-mul_left}
 use native.Mathlib.Omega.{arith}
 use lib.ListN.{length, get_or, get_or-eq_default}
+use Rattle.std.specs.Prelude.{Option, Some, None}
 use Rattle.basis.specs.Sum.{sum, same}
 use Rattle.basis.proofs.Sums.{sum_same, sum_mono}
 use Rattle.bitset.specs.Bits.{bit, Member, count}
 use Rattle.bitset.proofs.Counts.{count_below}
 use Rattle.bitset.proofs.Sets.{bit_cases, bit_of_none, below_by_members}
 use Rattle.pacsolve.specs.Problem.{Problem}
-use Rattle.pacsolve.specs.Cost.{weight_of, duplicates_of, amount, cost}
+use Rattle.pacsolve.specs.declared.Objective.{Objective}
+use Rattle.pacsolve.specs.declared.Objective.TheVariants.{Weight, Dependencies, Duplicates}
+use Rattle.pacsolve.specs.Cost.{weight_of, duplicates_of, amount, cost, objective_of}
 use Rattle.pacsolve.proofs.Duplicates.{some?, duplicates_repeated}
 use Rattle.catalogue.specs.declared.Settings.{Settings}
 use Rattle.catalogue.specs.Survey.{tabled}
@@ -21,7 +24,7 @@ use Rattle.plan.proofs.Totals.{sum_further, over_bound}
 use Rattle.price.specs.declared.Scale.{Scale}
 use Rattle.price.specs.declared.packages.Known.{Known}
 use Rattle.price.specs.Prices.{price_of, everything, Low}
-use Rattle.price.specs.Worth.{code_at, part_of, count_of, double_of, Scaled, Small, worth_of, BasePrices}
+use Rattle.price.specs.Worth.{code_at, objective_at, part_of, count_of, double_of, by_each, Scaled, Small, worth_of, base_price_of, BasePrices}
 use Rattle.price.specs.Kinds.{before_it, shared, firsts, Packaged, Raised}
 use Rattle.price.proofs.FirstMembers.{sum_add, same_le}
 use Rattle.price.proofs.Units.{part_le}
@@ -63,70 +66,80 @@ module _ (entries slots : List ℕ) (settings : Settings) (objectives fits : Lis
         together b h e f = omega arith
 
     -- what the members add by one objective
-    added : ℕ → ℕ → ℕ
-    added code unit = sum (λ e. bit set e * part_of code unit (p.weight e)) (length entries / 5)
+    added : Option Objective → ℕ → ℕ
+    added o unit = sum (λ e. bit set e * part_of o unit (p.weight e)) (length entries / 5)
 
-    weight_added : (unit : ℕ) → added 0 unit ≡ weight_of p set * unit
+    weight_added : (unit : ℕ) → added (Some Weight) unit ≡ weight_of p set * unit
     unfolding added weight_of
     weight_added unit =
         sum_same (λ e. bit set e * (unit * p.weight e)) (λ e. unit * (bit set e * p.weight e)) (length entries / 5) (λ e h. mul_left_comm (bit set e) unit (p.weight e))
         ∙ sum_times unit (λ e. bit set e * p.weight e) (length entries / 5) ∙ mul_comm unit (sum (λ e. bit set e * p.weight e) (length entries / 5))
 
-    count_added : (unit : ℕ) → added 1 unit ≡ unit * count set
+    count_added : (unit : ℕ) → added (Some Dependencies) unit ≡ unit * count set
     unfolding added
     count_added unit =
         sum_same (λ e. bit set e * unit) (λ e. unit * bit set e) (length entries / 5) (λ e h. mul_comm (bit set e) unit) ∙ sum_times unit (λ e. bit set e) (length entries / 5)
         ∙ ap (λ (k : ℕ). unit * k) (sym (count_below (length entries / 5) set few (below_by_members (length entries / 5) set exist)))
 
-    none_added : (code unit : ℕ) → added (suc (suc code)) unit ≡ 0
+    zeros : (n : ℕ) → sum (λ e. bit set e * 0) n ≡ 0
+    zeros zero = refl
+    zeros (suc n) = omega (arith, zeros n, mul-zero (bit set n))
+
+    duplicates_added : (unit : ℕ) → added (Some Duplicates) unit ≡ 0
     unfolding added
-    none_added code unit = zeros (length entries / 5)
-      where
-        zeros : (n : ℕ) → sum (λ e. bit set e * 0) n ≡ 0
-        zeros zero = refl
-        zeros (suc n) = omega (arith, zeros n, mul-zero (bit set n))
+    duplicates_added unit = zeros (length entries / 5)
+
+    none_added : (unit : ℕ) → added None unit ≡ 0
+    unfolding added
+    none_added unit = zeros (length entries / 5)
 
     less_one : (k unit : ℕ) → unit * k ≤ (k - 1) * unit + unit
     less_one zero unit = omega (arith, mul-zero unit)
     less_one (suc k) unit = let less : suc k - 1 ≡ k = omega arith in rw less (omega (arith, mul-suc unit k, mul_comm unit k))
 
-    by_objective : (code unit x n : ℕ) → x ≤ duplicates_of p set + n → added code unit + double_of code unit * x ≤ amount p set code * unit + (count_of code unit + double_of code unit * n)
+    by_objective : (code unit x n : ℕ) → x ≤ duplicates_of p set + n
+        → added (objective_of code) unit + double_of (objective_of code) unit * x
+        ≤ amount p set code * unit + (count_of (objective_of code) unit + double_of (objective_of code) unit * n)
     unfolding amount
     by_objective zero unit x n h = omega (arith, weight_added unit)
     by_objective (suc zero) unit x n h = omega (arith, count_added unit, less_one (count set) unit)
     by_objective (suc (suc zero)) unit x n h =
-        omega (arith, none_added 0 unit, mul-le-mul_left unit h, mul-add unit (duplicates_of p set) n, mul_comm unit (duplicates_of p set))
-    by_objective (suc (suc (suc code))) unit x n h = omega (arith, none_added (suc code) unit)
+        omega (arith, duplicates_added unit, mul-le-mul_left unit h, mul-add unit (duplicates_of p set) n, mul_comm unit (duplicates_of p set))
+    by_objective (suc (suc (suc code))) unit x n h = omega (arith, none_added unit)
 
     module _ (scale : Scale) (base : List ℕ) (scaled : Scaled objectives scale) (prices : BasePrices entries objectives scale base) where
       -- the prices by objective
-      base_added : price_of base set ≡ added (code_at objectives 0) scale.first + (added (code_at objectives 1) scale.second + added (code_at objectives 2) scale.third)
+      base_added : price_of base set ≡ by_each added objectives scale
       unfolding price_of added
       base_added =
           up_to_entries (λ e. get_or base e 0)
           ∙ sum_same (λ e. bit set e * get_or base e 0) (λ e. one e + (two e + three e)) (length entries / 5) (λ e h.
-          ap (λ (x : ℕ). bit set e * x) (prices.priced e h (omega arith)) ∙ apart (bit set e) (part_of (code_at objectives 0) scale.first (p.weight e)) (part_of (code_at objectives 1) scale.second (p.weight e)) (part_of (code_at objectives 2) scale.third (p.weight e)))
+          ap (λ (x : ℕ). bit set e * x) (prices.priced e h (omega arith)) ∙ apart e)
           ∙ sum_add one (λ e. two e + three e) (length entries / 5) ∙ ap (λ (x : ℕ). sum one (length entries / 5) + x) (sum_add two three (length entries / 5))
         where
+          part : ℕ → ℕ → ℕ → ℕ
+          part i unit e = part_of (objective_at objectives i) unit (p.weight e)
+
           one : ℕ → ℕ
-          one e = bit set e * part_of (code_at objectives 0) scale.first (p.weight e)
+          one e = bit set e * part 0 scale.first e
 
           two : ℕ → ℕ
-          two e = bit set e * part_of (code_at objectives 1) scale.second (p.weight e)
+          two e = bit set e * part 1 scale.second e
 
           three : ℕ → ℕ
-          three e = bit set e * part_of (code_at objectives 2) scale.third (p.weight e)
+          three e = bit set e * part 2 scale.third e
 
-          apart : (k a b c : ℕ) → k * (a + (b + c)) ≡ k * a + (k * b + k * c)
-          apart k a b c = mul-add k a (b + c) ∙ ap (λ (x : ℕ). k * a + x) (mul-add k b c)
+          apart : (e : ℕ) → bit set e * base_price_of objectives scale (p.weight e) ≡ one e + (two e + three e)
+          apart e =
+              mul-add (bit set e) (part 0 scale.first e) (part 1 scale.second e + part 2 scale.third e)
+              ∙ ap (λ (x : ℕ). one e + x) (mul-add (bit set e) (part 1 scale.second e) (part 2 scale.third e))
 
-      spread : (k : ℕ) → scale.double * k
-          ≡ double_of (code_at objectives 0) scale.first * k + (double_of (code_at objectives 1) scale.second * k + double_of (code_at objectives 2) scale.third * k)
+      spread : (k : ℕ) → scale.double * k ≡ by_each (λ o unit. double_of o unit * k) objectives scale
       spread k =
           ap (λ (x : ℕ). x * k) scaled.double
-          ∙ add-mul (double_of (code_at objectives 0) scale.first) (double_of (code_at objectives 1) scale.second + double_of (code_at objectives 2) scale.third) k
-          ∙ ap (λ (x : ℕ). double_of (code_at objectives 0) scale.first * k + x)
-          (add-mul (double_of (code_at objectives 1) scale.second) (double_of (code_at objectives 2) scale.third) k)
+          ∙ add-mul (double_of (objective_at objectives 0) scale.first) (double_of (objective_at objectives 1) scale.second + double_of (objective_at objectives 2) scale.third) k
+          ∙ ap (λ (x : ℕ). double_of (objective_at objectives 0) scale.first * k + x)
+          (add-mul (double_of (objective_at objectives 1) scale.second) (double_of (objective_at objectives 2) scale.third) k)
 
       base_le : (x n : ℕ) → x ≤ duplicates_of p set + n → price_of base set + scale.double * x ≤ worth_of scale (cost p set) + (scale.count + scale.double * n)
       unfolding worth_of
@@ -165,9 +178,9 @@ base_small entries objectives scale base small prices light e = go (dec_lt e (le
   where
     go : Dec (e < length entries / 5) → Dec (e < 64) → get_or base e 0 ≤ 140737488355328
     go (yes h) (yes l) =
-        let a = part_le (code_at objectives 0) scale.first (get_or entries (e * 5 + 4) 0) small.first (light e) in
-        let b = part_le (code_at objectives 1) scale.second (get_or entries (e * 5 + 4) 0) (omega (arith, small.second)) (light e) in
-        let c = part_le (code_at objectives 2) scale.third (get_or entries (e * 5 + 4) 0) (omega (arith, small.third)) (light e) in
+        let a = part_le (objective_at objectives 0) scale.first (get_or entries (e * 5 + 4) 0) small.first (light e) in
+        let b = part_le (objective_at objectives 1) scale.second (get_or entries (e * 5 + 4) 0) (omega (arith, small.second)) (light e) in
+        let c = part_le (objective_at objectives 2) scale.third (get_or entries (e * 5 + 4) 0) (omega (arith, small.third)) (light e) in
         omega (arith, prices.priced e h l, a, b, c)
     go (no n) l = omega (arith, prices.beyond e (omega arith))
     go (yes h) (no n) = let past : length base ≤ e = omega (arith, prices.sized) in omega (arith, get_or-eq_default base 0 past)

@@ -11,11 +11,11 @@ use lib.Seq.{get_or-set_same, get_or-set_other}
 use Rattle.basis.specs.Sum.{sum}
 use Rattle.basis.proofs.Sums.{sum_same, sum_changed, term_le}
 use Rattle.bitset.specs.Bits.{bit, Member}
-use Rattle.bitset.specs.Changes.{Without}
-use Rattle.bitset.specs.Search.{LowestOr64}
+use Rattle.bitset.specs.Walk.{Parts}
+use Rattle.bitset.proofs.Subsets.{lowest_below}
 use Rattle.bitset.proofs.Sets.{member_or_not, member_below, none_in_empty, bit_of_none}
 use Rattle.bitset.proofs.Made.{rest_members}
-use Rattle.plan.proofs.MemberWalk.{Walked, walk_start, walk_on, walk_left}
+use Rattle.bitset.proofs.MemberWalk.{Walked, walk_at, walk_on, walk_left}
 use Rattle.price.specs.Prices.{price_of, everything, Meets, Has, Drawn, Low}
 
 -- one term less by x: the sum is less by as much
@@ -64,9 +64,6 @@ pub member_price : (price : List ℕ) (S e : ℕ) → e < 64 → Member S e → 
 unfolding price_of
 member_price price S e h m = term_member (λ d. get_or price d 0) S 64 e h m
 
-pub drawn_none : {Q : ℕ → Type 0} (price : List ℕ) → Drawn Q price price 0
-drawn_none price = record { sized = refl; fair = λ set q. omega arith; whole = omega arith }
-
 pub drawn_then : {Q R : ℕ → Type 0} {a b c : List ℕ} {x y : ℕ} → Drawn Q a b x → Drawn R b c y → Drawn (λ set. Q set × R set) a c (x + y)
 drawn_then f g =
     record {
@@ -102,27 +99,20 @@ pub record Taking (A amount : ℕ) (price₀ price : List ℕ) (rest : ℕ) : Ty
   pub kept : (set : ℕ) → price_of price set ≤ price_of price₀ set
   pub taken : (set e : ℕ) → Member A e → Member set e → ¬ Member rest e → amount + price_of price set ≤ price_of price₀ set
 
-pub taking_start : (A amount : ℕ) (price : List ℕ) → A < 2 ^ 64 → Taking A amount price price A
-taking_start A amount price h =
-    record {
-      walked = walk_start (λ e. Unit {0}) h;
-      sized = refl;
-      same = λ e m. refl;
-      kept = λ set. omega arith;
-      taken = λ set e m n k. absurd (k m);
-    }
-
-module _ {A amount : ℕ} {price₀ price : List ℕ} {rest d : ℕ} (t : Taking A amount price₀ price rest) (some : ¬ (rest ≡ 0)) (low : LowestOr64 rest d) where
+module _ {A amount : ℕ} {price₀ price : List ℕ} {rest d less : ℕ} (t : Taking A amount price₀ price rest) (p : Parts rest d less) where
   pub taking_small : d < 64
-  taking_small = member_below 64 rest d t.walked.fits (low.some some).member
+  taking_small = lowest_below t.walked.fits p.lowest
 
-  pub taking_on : {less : ℕ} → length price₀ ≡ 64 → ((e : ℕ) → Member A e → amount ≤ get_or price₀ e 0) → Without rest d less
-      → Taking A amount price₀ (set price d (get_or price d 0 - amount)) less
-  taking_on {less} long enough w =
+  -- a member passed has the amount
+  pub taking_enough : ((e : ℕ) → Member A e → amount ≤ get_or price₀ e 0) → amount ≤ get_or price d 0
+  taking_enough enough = omega (arith, enough d (walk_at t.walked p), t.same d p.lowest.member)
+
+  pub taking_on : length price₀ ≡ 64 → ((e : ℕ) → Member A e → amount ≤ get_or price₀ e 0) → Taking A amount price₀ (set price d (get_or price d 0 - amount)) less
+  taking_on long enough =
       record {
-        walked = walk_on t.walked some low w tt;
+        walked = walk_on t.walked p tt;
         sized = length-set price d v ∙ t.sized;
-        same = λ e m. get_or-set_other price d e v 0 (walk_left t.walked some low w e m).1 ∙ t.same e ((w.members taking_small e).0 m).0;
+        same = λ e m. get_or-set_other price d e v 0 (walk_left t.walked p e m).1 ∙ t.same e ((p.rest.members taking_small e).0 m).0;
         kept = λ S. omega (arith, no_dearer price d v amount taking_small there whole S, t.kept S);
         taken = λ S e a m n. at S e a m n (member_or_not S d);
       }
@@ -134,12 +124,12 @@ module _ {A amount : ℕ} {price₀ price : List ℕ} {rest d : ℕ} (t : Taking
       there = omega (arith, taking_small, t.sized, long)
 
       whole : v + amount ≡ get_or price d 0
-      whole = omega (arith, enough d (t.walked.within d (low.some some).member), t.same d (low.some some).member)
+      whole = omega (arith, taking_enough enough)
 
       at : (S e : ℕ) → Member A e → Member S e → ¬ Member less e → Dec (Member S d) → amount + price_of (set price d v) S ≤ price_of price₀ S
       at S e a m n (yes x) = omega (arith, lowered price d v amount taking_small there whole S x, t.kept S)
       at S e a m n (no x) =
-          let passed : ¬ Member rest e = λ r. n ((w.members taking_small e).1 (r, λ k. x (rw k at m))) in
+          let passed : ¬ Member rest e = λ r. n ((p.rest.members taking_small e).1 (r, λ k. x (rw k at m))) in
           omega (arith, untouched price d v amount taking_small there whole S x, t.taken S e a m passed)
 
 pub taking_end : {A amount : ℕ} {price₀ price : List ℕ} {rest : ℕ} → Taking A amount price₀ price rest → rest ≡ 0 → A < 2 ^ 64 → (e : ℕ) × Member A e
@@ -159,13 +149,9 @@ pub record Emptying (A : ℕ) (price₀ price : List ℕ) (sum rest : ℕ) : Typ
   pub walked : Walked A rest (λ e. Unit {0})
   pub drawn : Drawn (Has A) price₀ price sum
 
-pub emptying_start : (A : ℕ) (price : List ℕ) → A < 2 ^ 64 → Emptying A price price 0 A
-emptying_start A price h = record { walked = walk_start (λ e. Unit {0}) h; drawn = drawn_none price }
-
-module _ {A : ℕ} {price₀ price : List ℕ} {sum rest d : ℕ} (t : Emptying A price₀ price sum rest) (some : ¬ (rest ≡ 0)) (low : LowestOr64 rest d)
-    (ready : Low price₀) where
+module _ {A : ℕ} {price₀ price : List ℕ} {sum rest d less : ℕ} (t : Emptying A price₀ price sum rest) (p : Parts rest d less) (ready : Low price₀) where
   pub emptying_small : d < 64
-  emptying_small = member_below 64 rest d t.walked.fits (low.some some).member
+  emptying_small = lowest_below t.walked.fits p.lowest
 
   there : d < length price
   there = omega (arith, emptying_small, t.drawn.sized, ready.0)
@@ -173,16 +159,13 @@ module _ {A : ℕ} {price₀ price : List ℕ} {sum rest d : ℕ} (t : Emptying 
   pub emptying_fits : sum + get_or price d 0 < 2 ^ 62
   emptying_fits = omega (arith, member_price price everything d emptying_small (in_everything d emptying_small), t.drawn.whole, ready.1)
 
-  pub emptying_on : {less : ℕ} → Without rest d less → Emptying A price₀ (set price d 0) (sum + get_or price d 0) less
-  emptying_on {less} w =
+  pub emptying_on : Emptying A price₀ (set price d 0) (sum + get_or price d 0) less
+  emptying_on =
       record {
-        walked = walk_on t.walked some low w tt;
+        walked = walk_on t.walked p tt;
         drawn = record {
           sized = length-set price d 0 ∙ t.drawn.sized;
-          fair = λ S h. omega (arith, lowered price d 0 (get_or price d 0) emptying_small there (omega arith) S (h d its), t.drawn.fair S h);
+          fair = λ S h. omega (arith, lowered price d 0 (get_or price d 0) emptying_small there (omega arith) S (h d (walk_at t.walked p)), t.drawn.fair S h);
           whole = omega (arith, lowered price d 0 (get_or price d 0) emptying_small there (omega arith) everything (in_everything d emptying_small), t.drawn.whole);
         };
       }
-    where
-      its : Member A d
-      its = t.walked.within d (low.some some).member

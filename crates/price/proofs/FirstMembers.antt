@@ -1,10 +1,10 @@
 -- Of entries of n packages a set has at most n that are the first of their package; all others that it has are duplicates.
-use mathlib.Core.Path.{◌≡◌, refl, sym, ap, ap₂, ◌∙◌}
+use mathlib.Core.Path.{◌≡◌, refl, ap, ap₂, ◌∙◌}
 use mathlib.Core.List.{List}
 use mathlib.Core.Logic.{◌⊎◌, inl, inr}
 use Prim.Native.Nat.{ℕ, zero, suc, ◌+◌, ◌*◌, ◌≤◌, ◌<◌}
 use native.Mathlib.Decide.{ℕ_discrete}
-use native.Mathlib.Nat.{mul-zero, zero-mul, one-mul}
+use native.Mathlib.Nat.{mul-zero, zero-mul}
 use native.Mathlib.Omega.{arith}
 use borrow.Author.Tests.{eq-eqb, ne_eqb}
 use lib.Bits.{bit_or}
@@ -122,11 +122,3 @@ module _ (entries : List ℕ) (set : ℕ) where
               of : Member a e ⊎ Member b e → bit set e * (bit (bit_or a b) e * x) ≤ bit set e * (bit a e * x) + bit set e * (bit b e * x)
               of (inl m) = rw (o, m) (omega arith)
               of (inr m) = rw (o, m) (omega arith)
-
--- the price of an entry that is known, and of another
-pub raised_known : (base known e double : ℕ) → Member known e → base + double ≡ base + bit known e * double
-raised_known base known e double m = ap (λ (x : ℕ). base + x) (sym (ap (λ (b : ℕ). b * double) m ∙ one-mul double))
-
-pub raised_other : (base known e double : ℕ) → ¬ Member known e → base ≡ base + bit known e * double
-raised_other base known e double n =
-    omega (arith, ap (λ (b : ℕ). b * double) (bit_of_none known e n) ∙ zero-mul double)

@@ -1,43 +1,24 @@
--- What an objective's code tells: how far it can come, and how many times it counts in a cost's worth and in an entry's price.
+-- What an objective tells: how far it can come, and how many times it counts in a cost's worth and in an entry's price.
 use mathlib.Core.Path.{◌≡◌, refl}
-use Prim.Native.Nat.{ℕ, zero, suc, ◌*◌, ◌≤◌, ◌<◌}
+use Prim.Native.Nat.{ℕ, ◌*◌, ◌≤◌, ◌<◌}
+use Rattle.std.specs.Prelude.{Option, Some, None}
 use native.Mathlib.Nat.{mul-le-mul}
 use native.Mathlib.Omega.{arith}
 use Rattle.pacsolve.specs.declared.Cost.{Cost}
+use Rattle.pacsolve.specs.declared.Objective.{Objective}
+use Rattle.pacsolve.specs.declared.Objective.TheVariants.{Weight, Dependencies, Duplicates}
 use Rattle.price.specs.declared.Scale.{Scale}
-use Rattle.price.specs.Worth.{span_of, part_of, count_of, double_of, Small}
-
-pub span_other : (code : ℕ) → ¬ (code ≡ 0) → 128 ≡ span_of code
-span_other zero n = absurd (n refl)
-span_other (suc code) n = refl
-
-pub part_weight : (code unit weight : ℕ) → code ≡ 0 → unit * weight ≡ part_of code unit weight
-part_weight code unit weight e = rw e refl
-
-pub part_other : (code unit weight : ℕ) → ¬ (code ≡ 0) → ¬ (code ≡ 1) → 0 ≡ part_of code unit weight
-part_other zero unit weight a b = absurd (a refl)
-part_other (suc zero) unit weight a b = absurd (b refl)
-part_other (suc (suc code)) unit weight a b = refl
-
-pub count_other : (code unit : ℕ) → ¬ (code ≡ 1) → 0 ≡ count_of code unit
-count_other zero unit n = refl
-count_other (suc zero) unit n = absurd (n refl)
-count_other (suc (suc code)) unit n = refl
-
-pub double_other : (code unit : ℕ) → ¬ (code ≡ 2) → 0 ≡ double_of code unit
-double_other zero unit n = refl
-double_other (suc zero) unit n = refl
-double_other (suc (suc zero)) unit n = absurd (n refl)
-double_other (suc (suc (suc code))) unit n = refl
+use Rattle.price.specs.Worth.{part_of, Small}
 
 -- products of bounded numbers
 pub times_le : {a b m n : ℕ} (k : ℕ) → a ≤ m → b ≤ n → m * n ≡ k → a * b ≤ k
 times_le k h l e = rw (← e) (mul-le-mul h l)
 
-pub part_le : (code unit weight : ℕ) → unit ≤ 536870912 → weight ≤ 65535 → part_of code unit weight ≤ 35184372088832
-part_le zero unit weight h l = omega (arith, times_le 35183835217920 h l refl)
-part_le (suc zero) unit weight h l = omega arith
-part_le (suc (suc code)) unit weight h l = omega arith
+pub part_le : (o : Option Objective) (unit weight : ℕ) → unit ≤ 536870912 → weight ≤ 65535 → part_of o unit weight ≤ 35184372088832
+part_le (Some Weight) unit weight h l = omega (arith, times_le 35183835217920 h l refl)
+part_le (Some Dependencies) unit weight h l = omega arith
+part_le (Some Duplicates) unit weight h l = omega arith
+part_le None unit weight h l = omega arith
 
 -- a cost's numbers, of 32 bits each, times what they count for
 pub record Digits (scale : Scale) (cost : Cost) : Type 0 where

@@ -7,13 +7,16 @@ use native.Mathlib.Decide.{dec_lt}
 use native.Mathlib.Nat.{suc-mul, mul-le-mul_right}
 use native.Mathlib.Omega.{arith}
 use lib.ListN.{length, get_or, get_or-eq_default}
+use Rattle.std.specs.Prelude.{Option, Some, None}
 use Rattle.basis.specs.Sum.{sum, same}
 use Rattle.basis.proofs.Sums.{sum_bound}
 use Rattle.bitset.specs.Bits.{bit}
 use Rattle.bitset.proofs.Counts.{count_le}
 use Rattle.pacsolve.specs.declared.Cost.{Cost}
 use Rattle.pacsolve.specs.Problem.{Problem}
-use Rattle.pacsolve.specs.Cost.{weight_of, duplicates_of, amount, cost, numbers}
+use Rattle.pacsolve.specs.declared.Objective.{Objective}
+use Rattle.pacsolve.specs.declared.Objective.TheVariants.{Weight, Dependencies, Duplicates}
+use Rattle.pacsolve.specs.Cost.{weight_of, duplicates_of, amount, cost, numbers, objective_of}
 use Rattle.pacsolve.specs.Order.{Earlier}
 use Rattle.pacsolve.proofs.Order.{earlier_cases}
 use Rattle.pacsolve.proofs.Duplicates.{some?, duplicates_repeated}
@@ -21,7 +24,7 @@ use Rattle.plan.proofs.Amounts.{mapped_within, mapped_past}
 use Rattle.plan.proofs.Tables.{get_d_within}
 use Rattle.plan.proofs.Totals.{over_bound}
 use Rattle.price.specs.declared.Scale.{Scale}
-use Rattle.price.specs.Worth.{code_at, span_of, count_of, double_of, Scaled, Apart, Small, worth_of}
+use Rattle.price.specs.Worth.{code_at, objective_at, span_of, count_of, double_of, by_each, Scaled, Apart, Small, worth_of}
 
 -- a problem of the size that tables have
 pub record Modest (p : Problem) : Type 0 where
@@ -61,8 +64,11 @@ module _ (p : Problem) (set : ℕ) where
 
     few_duplicates : duplicates_of p set < 128
     few_duplicates =
-        few (duplicates_repeated p set) (sum_bound (λ e. bit set e * some? (sum (λ d. bit set d * same (p.kind d) (p.kind e)) e)) p.entries 1 (λ e. at_most (bit set e) (some? (sum (λ d. bit set d * same (p.kind d) (p.kind e)) e)) (bit_le set e) (some_le (sum (λ d. bit set d * same (p.kind d) (p.kind e)) e))))
+        few (duplicates_repeated p set) (sum_bound (λ e. bit set e * some? (before e)) p.entries 1 (λ e. at_most (bit set e) (some? (before e)) (bit_le set e) (some_le (before e))))
       where
+        before : ℕ → ℕ
+        before e = sum (λ d. bit set d * same (p.kind d) (p.kind e)) e
+
         bit_le : (s e : ℕ) → bit s e ≤ 1
         bit_le s e = omega arith
 
@@ -77,12 +83,18 @@ module _ (p : Problem) (set : ℕ) where
         few : {d s : ℕ} → d ≡ s → s ≤ p.entries * 1 → d < 128
         few e h = omega (arith, modest.entries)
 
-    pub in_span : (code : ℕ) → amount p set code < span_of code
+    pub in_span : (code : ℕ) → amount p set code < span_of (objective_of code)
     unfolding amount
     in_span zero = light
     in_span (suc zero) = omega (arith, count_le set)
     in_span (suc (suc zero)) = few_duplicates
     in_span (suc (suc (suc code))) = omega arith
+
+    -- all but the weight
+    pub other_amount : (code : ℕ) → amount p set (suc code) < 128
+    other_amount zero = in_span 1
+    other_amount (suc zero) = in_span 2
+    other_amount (suc (suc code)) = in_span (suc (suc (suc code)))
 
 -- numbers of which the later stay below their spans compare as their sum does
 worth_by_digits : (k m a b c d e f : ℕ) → b < k → c < m → (a < d) ⊎ ((a ≡ d) × ((b < e) ⊎ ((b ≡ e) × (c < f)))) → a * (k * m) + (b * m + c * 1) < d * (k * m) + (e * m + f * 1)
@@ -120,40 +132,50 @@ pub worth_less : (p : Problem) (scale : Scale) → Scaled p.objectives scale →
 unfolding worth_of
 worth_less p scale s modest set c h =
     rw (s.first, s.second, s.third)
-    (worth_by_digits (span_of (code_at p.objectives 1)) (span_of (code_at p.objectives 2)) (cost p set).first (cost p set).second (cost p set).third c.first c.second c.third
+    (worth_by_digits (span_of (objective_at p.objectives 1)) (span_of (objective_at p.objectives 2)) (cost p set).first (cost p set).second (cost p set).third c.first c.second c.third
     (rw (second_number p set) (in_span p set modest (code_at p.objectives 1))) (rw (third_number p set) (in_span p set modest (code_at p.objectives 2))) (in_turn (cost p set) c h))
 
 -- where weight is asked for once, all that is counted stays small
-span_cases : (code : ℕ) → ((code ≡ 0) × (span_of code ≡ 4194304)) ⊎ (span_of code ≡ 128)
+span_cases : (code : ℕ) → ((code ≡ 0) × (span_of (objective_of code) ≡ 4194304)) ⊎ (span_of (objective_of code) ≡ 128)
 span_cases zero = inl (refl, refl)
-span_cases (suc code) = inr refl
+span_cases (suc zero) = inr refl
+span_cases (suc (suc zero)) = inr refl
+span_cases (suc (suc (suc code))) = inr refl
 
-counted_le : (code unit : ℕ) → count_of code unit ≤ unit
-counted_le zero unit = omega arith
-counted_le (suc zero) unit = omega arith
-counted_le (suc (suc code)) unit = omega arith
+counted_le : (o : Option Objective) (unit : ℕ) → count_of o unit ≤ unit
+counted_le (Some Weight) unit = omega arith
+counted_le (Some Dependencies) unit = omega arith
+counted_le (Some Duplicates) unit = omega arith
+counted_le None unit = omega arith
 
-doubled_le : (code unit : ℕ) → double_of code unit ≤ unit
-doubled_le zero unit = omega arith
-doubled_le (suc zero) unit = omega arith
-doubled_le (suc (suc zero)) unit = omega arith
-doubled_le (suc (suc (suc code))) unit = omega arith
+doubled_le : (o : Option Objective) (unit : ℕ) → double_of o unit ≤ unit
+doubled_le (Some Weight) unit = omega arith
+doubled_le (Some Dependencies) unit = omega arith
+doubled_le (Some Duplicates) unit = omega arith
+doubled_le None unit = omega arith
 
 pub scaled_small : (objectives : List ℕ) (scale : Scale) → Scaled objectives scale → Apart objectives → Small scale
 scaled_small objectives scale s apart = go (span_cases (code_at objectives 1)) (span_cases (code_at objectives 2))
   where
+    each_le : (f : Option Objective → ℕ → ℕ) → ((o : Option Objective) (unit : ℕ) → f o unit ≤ unit) → by_each f objectives scale ≤ scale.first + (scale.second + scale.third)
+    each_le f h =
+        let a = h (objective_at objectives 0) scale.first in
+        let b = h (objective_at objectives 1) scale.second in
+        let c = h (objective_at objectives 2) scale.third in
+        omega (arith, a, b, c)
+
     small : scale.first ≤ 536870912 → scale.second ≤ 4194304 → Small scale
     small f g =
         record {
           third = s.third;
           second = g;
           first = f;
-          count = omega (arith, s.count, s.third, counted_le (code_at objectives 0) scale.first, counted_le (code_at objectives 1) scale.second, counted_le (code_at objectives 2) scale.third);
-          double = omega (arith, s.double, s.third, doubled_le (code_at objectives 0) scale.first, doubled_le (code_at objectives 1) scale.second, doubled_le (code_at objectives 2) scale.third);
+          count = omega (arith, s.count, s.third, each_le count_of counted_le);
+          double = omega (arith, s.double, s.third, each_le double_of doubled_le);
         }
 
-    go : ((code_at objectives 1 ≡ 0) × (span_of (code_at objectives 1) ≡ 4194304)) ⊎ (span_of (code_at objectives 1) ≡ 128)
-        → ((code_at objectives 2 ≡ 0) × (span_of (code_at objectives 2) ≡ 4194304)) ⊎ (span_of (code_at objectives 2) ≡ 128) → Small scale
+    go : ((code_at objectives 1 ≡ 0) × (span_of (objective_at objectives 1) ≡ 4194304)) ⊎ (span_of (objective_at objectives 1) ≡ 128)
+        → ((code_at objectives 2 ≡ 0) × (span_of (objective_at objectives 2) ≡ 4194304)) ⊎ (span_of (objective_at objectives 2) ≡ 128) → Small scale
     go (inl x) (inl y) = absurd (apart x.0 y.0)
     go (inl x) (inr y) = small (omega (arith, rw (x.1, y) at s.first)) (omega (arith, rw y at s.second))
     go (inr x) (inl y) = small (omega (arith, rw (x, y.1) at s.first)) (omega (arith, rw y.1 at s.second))

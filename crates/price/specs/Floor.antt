@@ -5,6 +5,7 @@ use Rattle.bitset.specs.Bits.{Member}
 use Rattle.pacsolve.specs.Cost.{cost}
 use Rattle.catalogue.specs.declared.Settings.{Settings}
 use Rattle.catalogue.specs.Survey.{tabled}
+use Rattle.price.specs.declared.Rates.{Rates}
 use Rattle.price.specs.declared.Scale.{Scale}
 use Rattle.price.specs.declared.floor.Ground.{Ground}
 use Rattle.price.specs.Prices.{price_of, Has, Serves}
@@ -17,13 +18,14 @@ pub record Moderate (base : List ℕ) (scale : Scale) : Type 0 where
   pub sized : length base ≡ 64
   pub each : (e : ℕ) → get_or base e 0 ≤ 140737488355328
 
-pub record Floors (alike base : List ℕ) (scale : Scale) (first : List ℕ) (must : ℕ) (choices price : List ℕ) (r : Ground) : Type 0 where
+pub record Floors (rates : Rates) (first : List ℕ) (must : ℕ) (choices price : List ℕ) (r : Ground) : Type 0 where
   pub sum : r.sum < 2 ^ 62
   pub credit : r.credit < 2 ^ 62
   pub sized : length price ≡ 64
-  pub below : (entries objectives all fits : List ℕ) (settings : Settings) → OfOnePackage entries alike → Scaled objectives scale → BasePrices entries objectives scale base
+  pub below : (entries objectives all fits : List ℕ) (settings : Settings) → OfOnePackage entries rates.alike → Scaled objectives rates.scale
+      → BasePrices entries objectives rates.scale rates.base
       → length entries / 5 ≤ 64 → (set : ℕ) → ((e : ℕ) → Member set e → e < length entries / 5) → Has must set → Serves first set choices set
-      → r.sum + price_of price set ≤ worth_of scale (cost (tabled entries all settings objectives fits) set) + r.credit
+      → r.sum + price_of price set ≤ worth_of rates.scale (cost (tabled entries all settings objectives fits) set) + r.credit
 
 -- none but entries whose price is the limit or more
 pub record Dear (price : List ℕ) (limit r : ℕ) : Type 0 where

@@ -1,58 +1,39 @@
 // Drawing amounts from the prices: from one member at least of every set that has all of `must`, or a choice of each of its slots.
-ghost use Rattle.std.specs.Prelude.{◌≡◌, ℕ, ◌≤◌, length, get_or};
+// (That prices are `Low` is asked for where it is needed, and is no ghost field: `lay` lays the prices in an array of its caller's, and a struct of them would be a copy.)
+ghost use Rattle.std.specs.Prelude.{◌≡◌, ℕ, ◌≤◌, get_or};
 ghost use Rattle.bitset.specs.Bits.{Member};
-ghost use Rattle.catalogue.specs.Spans.{Bounded};
 ghost use Rattle.price.specs.Prices.{Low, Meets, Has, ServesSpan, Serves, Drawn};
 
-// The lower of two amounts.
-fn lower(a: u64, b: u64) -> u64
-    ensures { (result ≤ a) × (result ≤ b) }
-{
-    if a < b {
-        return a;
-    }
-    b
-}
+use catalogue::spans::SlotSpans;
 
 // The least price of a set's members.
 fn least_of(price: &[u64; 64], set: u64) -> u64
-    requires { length price.now ≡ 64 }
     ensures { (e : ℕ) → Member set e → result ≤ get_or price.now e 0 }
 {
-    let mut least = 18446744073709551615u64;
-    let mut rest = set;
-    while rest != 0 {
-        let e = bitset::lowest(rest);
-        least = lower(least, price[e as usize]);
-        rest = bitset::without(rest, e);
+    let mut least = u64::MAX;
+    for e in bitset::members(set) {
+        least = least.min(price[e as usize]);
     }
     least
 }
 
 // Takes an amount from the price of each member.
 fn take(price: &mut [u64; 64], set: u64, amount: u64)
-    requires { (length price.old ≡ 64) × ((¬ (set ≡ 0)) × ((e : ℕ) → Member set e → amount ≤ get_or price.old e 0)) }
+    requires some { ¬ (set ≡ 0) }
+    requires enough { (e : ℕ) → Member set e → amount ≤ get_or price.old e 0 }
     ensures { Drawn (Meets set) price.old price.new amount }
 {
-    let mut rest = set;
-    while rest != 0 {
-        let e = bitset::lowest(rest);
-        let i = e as usize;
-        price[i] = price[i] - amount;
-        rest = bitset::without(rest, e);
+    for e in bitset::members(set) {
+        price[e as usize] -= amount;
     }
 }
 
 // Draws from a set as much as each of its members has: a plan that has one of them pays that at least.
 pub fn pay(price: &mut [u64; 64], set: u64) -> u64
-    requires { length price.old ≡ 64 }
     ensures { Drawn (Meets set) price.old price.new result }
 {
-    if set == 0 {
-        return 0;
-    }
     let amount = least_of(price, set);
-    if amount == 0 {
+    if set == 0 || amount == 0 {
         return 0;
     }
     take(price, set, amount);
@@ -64,27 +45,24 @@ pub fn pay_all(price: &mut [u64; 64], set: u64) -> u64
     requires { Low price.old }
     ensures { Drawn (Has set) price.old price.new result }
 {
-    let mut sum: u64 = 0;
-    let mut rest = set;
-    while rest != 0 {
-        let e = bitset::lowest(rest);
+    let mut sum = 0;
+    for e in bitset::members(set) {
         let i = e as usize;
         sum += price[i];
         price[i] = 0;
-        rest = bitset::without(rest, e);
     }
     sum
 }
 
 // Draws for one slot, where no choice of it is paid for.
 fn pay_slot(price: &mut [u64; 64], must: u64, choices: u64) -> u64
-    requires { length price.old ≡ 64 }
     ensures { Drawn (Meets choices) price.old price.new result }
 {
-    if choices & must != 0 {
-        return 0;
+    if choices & must == 0 {
+        pay(price, choices)
+    } else {
+        0
     }
-    pay(price, choices)
 }
 
 // Draws for the slots of one entry that must be there.
@@ -99,28 +77,22 @@ fn pay_entry(
     requires end_bound { end ≤ 256 }
     ensures { Drawn (ServesSpan start end choices.now) price.old price.new result }
 {
-    let mut sum: u64 = 0;
-    let mut s = start;
-    while s < end {
+    let mut sum = 0;
+    for s in start..end {
         sum += pay_slot(price, must, choices[s]);
-        s += 1;
     }
     sum
 }
 
 // Draws for each slot of what must be there.
-pub fn pay_slots(price: &mut [u64; 64], first: &[usize; 65], must: u64, choices: &[u64; 256]) -> u64
-    requires low { Low price.old }
-    requires bounded { Bounded first.now }
-    ensures { Drawn (Serves first.now must choices.now) price.old price.new result }
+pub fn pay_slots(price: &mut [u64; 64], spans: &SlotSpans, must: u64, choices: &[u64; 256]) -> u64
+    requires { Low price.old }
+    ensures { Drawn (Serves spans.now.first must choices.now) price.old price.new result }
 {
-    let mut sum: u64 = 0;
-    let mut rest = must;
-    while rest != 0 {
-        let e = bitset::lowest(rest);
+    let mut sum = 0;
+    for e in bitset::members(must) {
         let i = e as usize;
-        sum += pay_entry(price, must, first[i], first[i + 1], choices);
-        rest = bitset::without(rest, e);
+        sum += pay_entry(price, must, spans.first[i], spans.first[i + 1], choices);
     }
     sum
 }

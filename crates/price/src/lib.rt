@@ -6,6 +6,7 @@ pub mod draw;
 pub mod floor;
 pub mod needs;
 pub mod packages;
+mod queue;
 pub mod worths;
 
 // How many times each number of a cost counts in its worth; and how many times dependencies and duplicates do, which start one member late.
@@ -16,4 +17,12 @@ pub struct Scale {
     pub third: u64,
     pub count: u64,
     pub double: u64,
+}
+
+// What prices go by: for each entry the entries of its package, for each entry its price, and how many times each number of a cost counts.
+#[derive(Clone, Copy)]
+pub struct Rates {
+    pub alike: [u64; 64],
+    pub base: [u64; 64],
+    pub scale: Scale,
 }

@@ -1,14 +1,11 @@
 // The entries of packages that are known to be there, and prices that count a second entry of such a package as the duplicate that it is.
-ghost use Rattle.std.specs.Prelude.{◌≡◌, List, ℕ, ◌+◌, ◌*◌, ◌≤◌, ◌<◌, ◌/◌, length, get_or};
-ghost use Rattle.bitset.specs.Bits.{bit};
+ghost use Rattle.std.specs.Prelude.{List, ℕ, ◌≤◌, ◌<◌, ◌/◌, length, get_or};
 ghost use Rattle.price.specs.Worth.{Small, BasePrices};
 ghost use Rattle.price.specs.Kinds.{OfOnePackage, WithPackage, Packaged, Raised};
 
 use crate::Scale;
 use crate::worths::base_price;
-use catalogue::fields::entry_field;
-
-const WEIGHT: usize = 4;
+use catalogue::fields::{WEIGHT, entry_field};
 
 // Entries of so many packages.
 #[derive(Clone, Copy)]
@@ -33,43 +30,28 @@ fn with_package(known: Known, e: u32, its: u64) -> Known
 
 // The packages of the members of a set. Row e of `alike` holds the entries of e's package.
 pub fn packages_of(set: u64, alike: &[u64; 64]) -> Known
-    requires { length alike.now ≡ 64 }
-    ensures { (result.packages ≤ 64) × ((entries : List ℕ) → OfOnePackage entries alike.now → Packaged entries result) }
+    ensures few { result.packages ≤ 64 }
+    ensures packaged { (entries : List ℕ) → OfOnePackage entries alike.now → Packaged entries result }
 {
     let mut found = Known {
         entries: 0,
         packages: 0,
     };
-    let mut rest = set;
-    while rest != 0 {
-        let e = bitset::lowest(rest);
-        rest = bitset::without(rest, e);
+    for e in bitset::members(set) {
         found = with_package(found, e, alike[e as usize]);
     }
     found
 }
 
-// The price of an entry that is known or not.
-fn raised_price(base: u64, known: u64, e: u32, double: u64) -> u64
-    requires { (base ≤ 140737488355328) × (double ≤ 541065217) }
-    ensures { result ≡ base + bit known e * double }
-{
-    if bitset::has(known, e) {
-        return base + double;
-    }
-    base
-}
-
 // Prices that count what a duplicate does for each entry that is known.
 pub fn raised(base: &[u64; 64], known: u64, double: u64) -> [u64; 64]
-    requires { (length base.now ≡ 64) × (((e : ℕ) → get_or base.now e 0 ≤ 140737488355328) × (double ≤ 541065217)) }
+    requires low { (e : ℕ) → get_or base.now e 0 ≤ 140737488355328 }
+    requires double_low { double ≤ 541065217 }
     ensures { Raised base.now known double result }
 {
-    let mut price = [0u64; 64];
-    let mut e: usize = 0;
-    while e < 64 {
-        price[e] = raised_price(base[e], known, e as u32, double);
-        e += 1;
+    let mut price = *base;
+    for e in bitset::members(known) {
+        price[e as usize] += double;
     }
     price
 }
@@ -80,12 +62,9 @@ pub fn base_prices(entries: &[u16], objectives: &[u8], scale: Scale) -> [u64; 64
     requires few { length entries.now / 5 ≤ 64 }
     ensures { BasePrices entries.now objectives.now scale result }
 {
-    let n = entries.len() / 5;
     let mut base = [0u64; 64];
-    let mut e: usize = 0;
-    while e < n {
+    for e in 0..entries.len() / 5 {
         base[e] = base_price(objectives, scale, entry_field(entries, e, WEIGHT));
-        e += 1;
     }
     base
 }

@@ -1,54 +1,51 @@
 -- Bytes put one behind the other are put together.
-use mathlib.Core.Path.{◌≡◌, sym, ap, ◌∙◌}
+use mathlib.Core.Path.{◌≡◌, refl, sym, ap, ◌∙◌}
 use mathlib.Core.List.{List, [], ◌++◌, append_assoc}
 use Prim.Native.Nat.{ℕ, ◌+◌, ◌≤◌}
 use native.Mathlib.Nat.{add-zero}
 use native.Mathlib.Omega.{arith}
 use lib.ListN.{length, take, drop, length-append, take-append-drop, length-drop}
-use lib.Seq.{length-take-le, take-length, paste}
+use lib.Seq.{length-take-le}
 use Rattle.csv_text.proofs.Rows.{row_behind}
-use Rattle.report.specs.Adding.{Adds}
+use Rattle.report.specs.declared.put.Output.{Output}
+use Rattle.report.specs.Adding.{Room, Adds}
 
 -- nothing is put
-pub adds_none : (lent : List ℕ) (at : ℕ) → Adds lent at [] at lent
-adds_none lent at =
-    record { counted = omega arith; written = sym (take-append-drop at lent) ∙ ap (λ (k : ℕ). take at lent ++ drop k lent) (sym (add-zero at)) }
-
--- a copy of all bytes
-pub adds_copied : {lent buffer : List ℕ} {at : ℕ} (bs : List ℕ) (n : ℕ) → n ≡ length bs → buffer ≡ paste lent at bs n → Adds lent at bs (at + n) buffer
-adds_copied {lent} {buffer} {at} bs n e f =
+pub adds_none : (o : Output) → Adds o [] o
+adds_none o =
     record {
+      same_buffer = refl;
       counted = omega arith;
-      written =
-          f
-          ∙ ap (λ (k : ℕ). paste lent at bs k) e
-          ∙ ap (λ (l : List ℕ). take at lent ++ l ++ drop (at + length bs) lent) (take-length bs)
-          ∙ append_assoc (take at lent) bs (drop (at + length bs) lent);
+      written = sym (take-append-drop o.filled o.bytes.now) ∙ ap (λ (k : ℕ). take o.filled o.bytes.now ++ drop k o.bytes.now) (sym (add-zero o.filled));
     }
 
-module _ {lent : List ℕ} {at : ℕ} {a : List ℕ} {r : ℕ} {mid : List ℕ} (room : at ≤ length lent) (f : Adds lent at a r mid) where
-  front : length (take at lent ++ a) ≡ r
-  front = length-append (take at lent) a ∙ omega (arith, length-take-le at lent room, f.counted)
+module _ {o : Output} {a : List ℕ} {m : Output} (room : o.filled ≤ length o.bytes.now) (f : Adds o a m) where
+  front : length (take o.filled o.bytes.now ++ a) ≡ m.filled
+  front = length-append (take o.filled o.bytes.now) a ∙ omega (arith, length-take-le o.filled o.bytes.now room, f.counted)
 
-  opened : mid ≡ (take at lent ++ a) ++ drop r lent
-  opened = f.written ∙ ap (λ (k : ℕ). take at lent ++ (a ++ drop k lent)) (sym f.counted) ∙ sym (append_assoc (take at lent) a (drop r lent))
+  opened : m.bytes.now ≡ (take o.filled o.bytes.now ++ a) ++ drop m.filled o.bytes.now
+  opened =
+      f.written
+      ∙ ap (λ (k : ℕ). take o.filled o.bytes.now ++ (a ++ drop k o.bytes.now)) (sym f.counted)
+      ∙ sym (append_assoc (take o.filled o.bytes.now) a (drop m.filled o.bytes.now))
 
-  pub adds_both : {b : List ℕ} {s : ℕ} {buffer : List ℕ} → Adds mid r b s buffer → Adds lent at (a ++ b) s buffer
-  adds_both {b} {s} {buffer} g =
+  pub adds_both : {b : List ℕ} {n : Output} → Adds m b n → Adds o (a ++ b) n
+  adds_both {b} {n} g =
       record {
+        same_buffer = g.same_buffer ∙ f.same_buffer;
         counted = sum;
         written =
             g.written
-            ∙ row_behind (take at lent ++ a) lent b r front opened
-            ∙ ap (λ (k : ℕ). ((take at lent ++ a) ++ b) ++ drop k lent) (sym g.counted ∙ sum)
-            ∙ ap (λ (l : List ℕ). l ++ drop (at + length (a ++ b)) lent) (append_assoc (take at lent) a b)
-            ∙ append_assoc (take at lent) (a ++ b) (drop (at + length (a ++ b)) lent);
+            ∙ row_behind (take o.filled o.bytes.now ++ a) o.bytes.now b m.filled front opened
+            ∙ ap (λ (k : ℕ). ((take o.filled o.bytes.now ++ a) ++ b) ++ drop k o.bytes.now) (sym g.counted ∙ sum)
+            ∙ ap (λ (l : List ℕ). l ++ drop (o.filled + length (a ++ b)) o.bytes.now) (append_assoc (take o.filled o.bytes.now) a b)
+            ∙ append_assoc (take o.filled o.bytes.now) (a ++ b) (drop (o.filled + length (a ++ b)) o.bytes.now);
       }
     where
-      sum : s ≡ at + length (a ++ b)
+      sum : n.filled ≡ o.filled + length (a ++ b)
       sum = omega (arith, f.counted, g.counted, length-append a b)
 
   -- the buffer keeps its length
-  pub adds_length : r ≤ length lent → length mid ≡ length lent
+  pub adds_length : m.filled ≤ length o.bytes.now → length m.bytes.now ≡ length o.bytes.now
   adds_length within =
-      ap length opened ∙ length-append (take at lent ++ a) (drop r lent) ∙ omega (arith, front, length-drop r lent)
+      ap length opened ∙ length-append (take o.filled o.bytes.now ++ a) (drop m.filled o.bytes.now) ∙ omega (arith, front, length-drop m.filled o.bytes.now)

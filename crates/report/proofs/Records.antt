@@ -17,9 +17,7 @@ use Rattle.csv_text.specs.declared.line.EntryParts.{EntryParts}
 use Rattle.csv_text.specs.Layout.{crlf, Line, entry, slot, written, Number, FieldByte, EntryLine, LineOk}
 use Rattle.csv_text.specs.Says.{entry_count}
 use Rattle.csv_text.specs.Reader.{Run, EntryFound}
-use Rattle.csv_text.specs.Numbering.{part}
-use Rattle.csv_text.proofs.Fields.{stops_there, reserved_no_field}
-use Rattle.csv_text.proofs.Lines.{past}
+use Rattle.csv_text.proofs.Fields.{stops_there}
 use Rattle.csv_text.proofs.Walks.{◌then◌}
 use Rattle.report.specs.Output.{one_or_two, decimal, record_of, present, members_from}
 
@@ -127,53 +125,47 @@ entry_split : (name x y z weight rest : List ℕ)
     → written (entry name x y z weight) ++ rest ≡ (name ++ (44 ∷ [])) ++ (version_of x y z ++ (44 ∷ (weight ++ (44 ∷ 44 ∷ rest))))
 entry_split name x y z weight rest = simp append_assoc
 
-module _ (text : List ℕ) (from : ℕ) {e : EntryParts} (f : EntryFound (drop from text) e) where
+module _ (text : List ℕ) {e : EntryParts} (f : EntryFound text e) where
   abbrev version : List ℕ
   version = version_of f.x f.y f.z
 
   abbrev behind_version : List ℕ
   behind_version = 44 ∷ (f.weight ++ (44 ∷ 44 ∷ f.rest))
 
-  line_split : drop from text ≡ (f.name ++ (44 ∷ [])) ++ (version ++ behind_version)
+  line_split : text ≡ (f.name ++ (44 ∷ [])) ++ (version ++ behind_version)
   line_split = f.whole ∙ entry_split f.name f.x f.y f.z f.weight f.rest
 
   name_end : length (f.name ++ (44 ∷ [])) ≡ e.name + 1
   name_end = length-append f.name (44 ∷ []) ∙ omega (arith, f.of_name)
 
-  at_version : drop (from + e.name + 1) text ≡ version ++ behind_version
-  at_version =
-      sym (past text from (e.name + 1) (from + e.name + 1) (omega arith))
-      ∙ ap (λ (t : List ℕ). drop (e.name + 1) t) line_split
-      ∙ drop_at (f.name ++ (44 ∷ [])) (version ++ behind_version) (e.name + 1) name_end
+  at_version : drop (e.name + 1) text ≡ version ++ behind_version
+  at_version = ap (λ (t : List ℕ). drop (e.name + 1) t) line_split ∙ drop_at (f.name ++ (44 ∷ [])) (version ++ behind_version) (e.name + 1) name_end
 
-  pub version_within : from ≤ length text → from + e.name + 1 ≤ length text
-  version_within h =
-      omega (arith, sym (length-drop from text) ∙ ap length line_split ∙ length-append (f.name ++ (44 ∷ [])) (version ++ behind_version), name_end)
+  pub version_within : e.name + 1 ≤ length text
+  version_within = omega (arith, ap length line_split ∙ length-append (f.name ++ (44 ∷ [])) (version ++ behind_version), name_end)
 
-  module _ {k : ℕ} (run : Run FieldByte (drop (from + e.name + 1) text) k) where
-    field_is : take k (drop (from + e.name + 1) text) ≡ version
+  module _ {k : ℕ} (run : Run FieldByte (drop (e.name + 1) text) k) where
+    field_is : take k (drop (e.name + 1) text) ≡ version
     field_is =
-        (run_stops FieldByte (take k (drop (from + e.name + 1) text)) version (drop k (drop (from + e.name + 1) text)) behind_version run.each
-        (version_plain f.x f.y f.z f.ok.major f.ok.minor f.ok.patch) (stops_there (drop (from + e.name + 1) text) k run)
-        (reserved_no_field 44 (inr (inr (inr refl)))) (take-append-drop k (drop (from + e.name + 1) text) ∙ at_version)).0
+        (run_stops FieldByte (take k (drop (e.name + 1) text)) version (drop k (drop (e.name + 1) text)) behind_version run.each
+        (version_plain f.x f.y f.z f.ok.major f.ok.minor f.ok.patch) (stops_there (drop (e.name + 1) text) k run)
+        (λ b. b.no_comma refl) (take-append-drop k (drop (e.name + 1) text) ∙ at_version)).0
 
     version_size : length version ≡ k
-    version_size = sym (ap length field_is) ∙ length-take-le k (drop (from + e.name + 1) text) run.within
+    version_size = sym (ap length field_is) ∙ length-take-le k (drop (e.name + 1) text) run.within
 
     -- the package and version fields, with the comma between them
-    fields_part : part text from (from + e.name + 1 + k) ≡ (f.name ++ (44 ∷ [])) ++ version
-    fields_part =
-        let size : from + e.name + 1 + k - from ≡ e.name + 1 + k = omega arith in
-        ap (λ (n : ℕ). take n (drop from text)) size
-        ∙ ap (λ (t : List ℕ). take (e.name + 1 + k) t) (line_split ∙ sym (append_assoc (f.name ++ (44 ∷ [])) version behind_version))
+    fields_front : take (e.name + 1 + k) text ≡ (f.name ++ (44 ∷ [])) ++ version
+    fields_front =
+        ap (λ (t : List ℕ). take (e.name + 1 + k) t) (line_split ∙ sym (append_assoc (f.name ++ (44 ∷ [])) version behind_version))
         ∙ take_at ((f.name ++ (44 ∷ [])) ++ version) behind_version (e.name + 1 + k)
         (length-append (f.name ++ (44 ∷ [])) version ∙ omega (arith, name_end, version_size))
 
-    pub fields_short : length (part text from (from + e.name + 1 + k)) ≤ 50
+    pub fields_short : length (take (e.name + 1 + k) text) ≤ 50
     fields_short =
         omega (
           arith,
-          ap length fields_part ∙ length-append (f.name ++ (44 ∷ [])) version,
+          ap length fields_front ∙ length-append (f.name ++ (44 ∷ [])) version,
           name_end,
           f.of_name,
           f.ok.named.short,
@@ -186,5 +178,5 @@ module _ (text : List ℕ) (from : ℕ) {e : EntryParts} (f : EntryFound (drop f
 
     -- a record is the plan's number, a comma and those fields
     pub record_spelled : (number : ℕ) → number < 10
-        → record_of number f.name f.x f.y f.z ≡ (48 + number) ∷ 44 ∷ (part text from (from + e.name + 1 + k) ++ crlf)
-    record_spelled number h = rw (one_digit number h, fields_part) (simp append_assoc)
+        → record_of number f.name f.x f.y f.z ≡ (48 + number) ∷ 44 ∷ (take (e.name + 1 + k) text ++ crlf)
+    record_spelled number h = rw (one_digit number h, fields_front) (simp append_assoc)

@@ -5,21 +5,22 @@ use mathlib.Core.List.{List, [], ◌∷◌, ◌++◌}
 use Prim.Native.Nat.{ℕ, ◌+◌, ◌*◌, ◌≤◌, ◌<◌}
 use native.Mathlib.Omega.{arith}
 use lib.Dec.{T, eqb, eqb→eq}
-use lib.ListN.{length, drop, length-drop}
+use lib.ListN.{length, take, drop}
 use Rattle.bitset.specs.Bits.{bit, Member}
 use Rattle.csv_text.specs.declared.line.EntryParts.{EntryParts}
 use Rattle.csv_text.specs.declared.line.SlotParts.{SlotParts}
 use Rattle.csv_text.specs.Layout.{Line, FieldByte, body, crlf}
 use Rattle.csv_text.specs.Says.{entry_count}
 use Rattle.csv_text.specs.Reader.{IsLine, EntryFound, SlotFound, NoLine, Run}
-use Rattle.csv_text.specs.Numbering.{part}
 use Rattle.csv_text.proofs.Unique.{one_sheet}
 use Rattle.csv_text.proofs.Walks.{◌then◌, Next, next_line, next_ok, lines_at_end, all_passed, lays_headed, walked_none, walked_on, entry_next, slot_next, entry_before, entries_then_entry, entries_then_slot}
 use Rattle.csv_text.proofs.Found.{entry_of, slot_of}
 use Rattle.csv_text.proofs.Filled.{entry_is, slot_is, entries_of_append}
 use Rattle.report.specs.declared.members.Place.{Place}
+use Rattle.report.specs.declared.members.Shown.{Shown}
+use Rattle.report.specs.declared.put.Output.{Output}
 use Rattle.report.specs.Output.{record_of, present, members}
-use Rattle.report.specs.Adding.{Adds, RecordRoom}
+use Rattle.report.specs.Adding.{Room, Adds}
 use Rattle.report.specs.Telling.{MemberRoom, MemberTold, Telling, Underway, Tells, Tellable, AllTold}
 use Rattle.report.proofs.Adding.{adds_none, adds_both, adds_length}
 use Rattle.report.proofs.Records.{version_within, fields_short, record_spelled, members_short, members_entry, members_slot}
@@ -33,36 +34,30 @@ there : (b : Bool) (bs : List ℕ) → T b → present b bs ≡ bs
 there true bs t = refl
 there false bs t = absurd t
 
-pub no_member : (set index : ℕ) (bs : List ℕ) {lent : List ℕ} {at : ℕ} → ¬ Member set index → Adds lent at (present (eqb (bit set index) 1) bs) at lent
-no_member set index bs {lent} {at} n = rw (absent (eqb (bit set index) 1) bs (λ t. n (eqb→eq (bit set index) 1 t))) (adds_none lent at)
+pub no_member : (set index : ℕ) (bs : List ℕ) {o : Output} → ¬ Member set index → Adds o (present (eqb (bit set index) 1) bs) o
+no_member set index bs {o} n = rw (absent (eqb (bit set index) 1) bs (λ t. n (eqb→eq (bit set index) 1 t))) (adds_none o)
 
 -- a member's record can be put, and is put
-module _ {text : List ℕ} {from : ℕ} {e : EntryParts} {number : ℕ} {lent : List ℕ} {at : ℕ} (m : MemberRoom text from e number lent at) where
-  pub version_there : from + e.name + 1 ≤ length text
-  version_there = version_within text from m.found m.within
+module _ {text : List ℕ} {e : EntryParts} {s : Shown} {o : Output} (m : MemberRoom text e s o) where
+  pub version_there : e.name + 1 ≤ length text
+  version_there = version_within text m.found
 
-  pub record_room : {k : ℕ} → Run FieldByte (drop (from + e.name + 1) text) k → RecordRoom text from (from + e.name + 1 + k) number lent at
-  record_room {k} run =
-      record {
-        ordered = omega arith;
-        within = omega (arith, version_there, run.within, length-drop (from + e.name + 1) text);
-        one_digit = m.one_digit;
-        room = omega (arith, m.room, fields_short text from m.found run);
-      }
+  pub record_room : {k : ℕ} → Run FieldByte (drop (e.name + 1) text) k → Room o (4 + length (take (e.name + 1 + k) text))
+  record_room {k} run = omega (arith, m.room, fields_short text m.found run)
 
-  pub member_put : (set index : ℕ) {k r : ℕ} {buffer : List ℕ} → Run FieldByte (drop (from + e.name + 1) text) k → Member set index
-      → Adds lent at ((48 + number) ∷ 44 ∷ (part text from (from + e.name + 1 + k) ++ crlf)) r buffer → MemberTold text from e set index number lent at r buffer
-  member_put set index run i a f =
-      rw (there (eqb (bit set index) 1) (record_of number f.name f.x f.y f.z) (rw i tt), record_spelled text from f run number m.one_digit) a
+  pub member_put : (index : ℕ) {k : ℕ} {o' : Output} → Run FieldByte (drop (e.name + 1) text) k → Member s.set index
+      → Adds o ((48 + s.number) ∷ 44 ∷ (take (e.name + 1 + k) text ++ crlf)) o' → MemberTold text e s index o o'
+  member_put index run i a f =
+      rw (there (eqb (bit s.set index) 1) (record_of s.number f.name f.x f.y f.z) (rw i tt), record_spelled text f run s.number m.one_digit) a
 
 -- where more lines follow
-module _ {text : List ℕ} {set number : ℕ} {lent : List ℕ} {start : ℕ} {lines done : List Line} {p : Place} {buffer : List ℕ}
-    (g : Telling text set number lent start lines done p buffer) where
-  done_short : length (members number set done) ≤ 54 * entry_count done
-  done_short = members_short number set 0 done g.one_digit g.walked.each
+module _ {text : List ℕ} {s : Shown} {start : Output} {lines done : List Line} {p : Place} {o : Output}
+    (g : Telling text s start lines done p o) where
+  done_short : length (members s.number s.set done) ≤ 54 * entry_count done
+  done_short = members_short s.number s.set 0 done g.one_digit g.walked.each
 
   -- the buffer keeps its length
-  sized : entry_count done ≤ 64 → length buffer ≡ length lent
+  sized : entry_count done ≤ 64 → length o.bytes.now ≡ length start.bytes.now
   sized h = adds_length (omega (arith, g.room)) g.told (omega (arith, g.told.counted, g.room, done_short))
 
   module _ (h : p.at + 2 < length text) where
@@ -74,11 +69,10 @@ module _ {text : List ℕ} {set number : ℕ} {lent : List ℕ} {start : ℕ} {l
 
     -- an entry comes next
     module _ {e : EntryParts} (f : EntryFound (drop (p.at + 2) text) e) where
-      pub member_room : MemberRoom text (p.at + 2) e number buffer p.filled
+      pub member_room : MemberRoom (drop (p.at + 2) text) e s o
       member_room =
           record {
             found = f;
-            within = omega arith;
             one_digit = g.one_digit;
             room =
                 omega (
@@ -92,9 +86,9 @@ module _ {text : List ℕ} {set number : ℕ} {lent : List ℕ} {start : ℕ} {l
                 );
           }
 
-      pub entry_told : {r : ℕ} {buffer' : List ℕ} → MemberTold text (p.at + 2) e set p.entries number buffer p.filled r buffer'
-          → Telling text set number lent start lines (done then entry_of f) (record { at = p.at + 2 + e.used; entries = p.entries + 1; filled = r }) buffer'
-      entry_told {r} {buffer'} m =
+      pub entry_told : {o' : Output} → MemberTold (drop (p.at + 2) text) e s p.entries o o'
+          → Telling text s start lines (done then entry_of f) (record { at = p.at + 2 + e.used; entries = p.entries + 1 }) o'
+      entry_told {o'} m =
           record {
             limited = g.limited;
             one_digit = g.one_digit;
@@ -104,7 +98,7 @@ module _ {text : List ℕ} {set number : ℕ} {lent : List ℕ} {start : ℕ} {l
                 (walked_on (entry_of f) f.rest g.walked h f.ok (entry_next done f.name f.x f.y f.z f.weight g.walked.first) f.whole f.ends);
             declared = omega (arith, g.declared, entries_then_entry done f.name f.x f.y f.z f.weight);
             told =
-                rw (members_entry number set 0 done f.name f.x f.y f.z f.weight)
+                rw (members_entry s.number s.set 0 done f.name f.x f.y f.z f.weight)
                 (adds_both (omega (arith, g.room)) g.told (rw (g.declared ∙ index) at (m f)));
           }
         where
@@ -113,7 +107,7 @@ module _ {text : List ℕ} {set number : ℕ} {lent : List ℕ} {start : ℕ} {l
 
     -- a slot comes next
     pub slot_told : {e : SlotParts} (f : SlotFound (drop (p.at + 2) text) e)
-        → Telling text set number lent start lines (done then slot_of f) (record { at = p.at + 2 + e.used; entries = p.entries; filled = p.filled }) buffer
+        → Telling text s start lines (done then slot_of f) (record { at = p.at + 2 + e.used; entries = p.entries }) o
     slot_told {e} f =
         record {
           limited = g.limited;
@@ -123,46 +117,44 @@ module _ {text : List ℕ} {set number : ℕ} {lent : List ℕ} {start : ℕ} {l
               rw f.used
               (walked_on (slot_of f) f.rest g.walked h f.ok (slot_next done f.name f.constraint g.walked.first some_entry) f.whole f.ends);
           declared = g.declared ∙ sym (entries_then_slot done f.name f.constraint);
-          told = rw (members_slot number set 0 done f.name f.constraint) g.told;
+          told = rw (members_slot s.number s.set 0 done f.name f.constraint) g.told;
         }
       where
         some_entry : ¬ (entry_count done ≡ 0)
         some_entry = entry_before done f.name f.constraint coming.more (rw (slot_is g.limited.lays coming f) at g.limited.lays.first)
 
 -- one line more is passed, whichever it is
-module _ {text : List ℕ} {set number : ℕ} {p : Place} {buffer : List ℕ} (h : p.at + 2 < length text) where
-  pub tells_entry : {e : EntryParts} (f : EntryFound (drop (p.at + 2) text) e) {r : ℕ} {buffer' : List ℕ}
-      → MemberTold text (p.at + 2) e set p.entries number buffer p.filled r buffer'
-      → Tells text set number p buffer (record { at = p.at + 2 + e.used; entries = p.entries + 1; filled = r }) buffer'
-  tells_entry f m = record { onward = omega arith; told = λ lent start lines done g. (entry_of f, entry_told g h f m) }
+module _ {text : List ℕ} {s : Shown} {p : Place} {o : Output} (h : p.at + 2 < length text) where
+  pub tells_entry : {e : EntryParts} (f : EntryFound (drop (p.at + 2) text) e) {o' : Output}
+      → MemberTold (drop (p.at + 2) text) e s p.entries o o' → Tells text s p o (record { at = p.at + 2 + e.used; entries = p.entries + 1 }) o'
+  tells_entry f m = record { onward = omega arith; told = λ start lines done g. (entry_of f, entry_told g h f m) }
 
   pub tells_slot : {e : SlotParts} (f : SlotFound (drop (p.at + 2) text) e)
-      → Tells text set number p buffer (record { at = p.at + 2 + e.used; entries = p.entries; filled = p.filled }) buffer
-  tells_slot f = record { onward = omega arith; told = λ lent start lines done g. (slot_of f, slot_told g h f) }
+      → Tells text s p o (record { at = p.at + 2 + e.used; entries = p.entries }) o
+  tells_slot f = record { onward = omega arith; told = λ start lines done g. (slot_of f, slot_told g h f) }
 
 -- a line stands there
-pub no_line_left : {text : List ℕ} {set number : ℕ} {p : Place} {buffer : List ℕ} → Underway text set number p buffer → ¬ NoLine IsLine (drop (p.at + 2) text)
+pub no_line_left : {text : List ℕ} {s : Shown} {p : Place} {o : Output} → Underway text s p o → ¬ NoLine IsLine (drop (p.at + 2) text)
 no_line_left v never =
     let g = v.telling in
     let x = next_line g.walked g.limited.lays v.more in
     never x.line tt (next_ok g.limited.lays x) (body x.more ++ x.ending) (lines_at_end x.more x.ending x.ends) x.rest
 
 -- before the first line
-pub telling_none : {text : List ℕ} {number : ℕ} {lent : List ℕ} {at : ℕ} (set : ℕ) (v : Tellable text number lent at)
-    → Telling text set number lent at v.lines [] (record { at = 39; entries = 0; filled = at }) lent
-telling_none {text} {number} {lent} {at} set v =
+pub telling_none : {text : List ℕ} {s : Shown} {o : Output} (v : Tellable text s o) → Telling text s o v.lines [] (record { at = 39; entries = 0 }) o
+telling_none {o = o} v =
     record {
       limited = v.limited;
       one_digit = v.one_digit;
       room = v.room;
       walked = walked_none (lays_headed v.limited.lays);
       declared = refl;
-      told = adds_none lent at;
+      told = adds_none o;
     }
 
 -- behind the last
-pub all_told : {text : List ℕ} {set number : ℕ} {lent : List ℕ} {start : ℕ} {lines done : List Line} {p : Place} {buffer : List ℕ}
-    → Telling text set number lent start lines done p buffer → length text ≤ p.at + 2 → AllTold text set number lent start p.filled buffer
+pub all_told : {text : List ℕ} {s : Shown} {start : Output} {lines done : List Line} {p : Place} {o : Output}
+    → Telling text s start lines done p o → length text ≤ p.at + 2 → AllTold text s start o
 all_told {text} {lines = lines} {done = done} g h ls l =
     let same : done ≡ ls = all_passed g.walked g.limited.lays h ∙ one_sheet g.limited.lays l in
     rw same at g.told

@@ -1,16 +1,14 @@
--- Bytes put into a lent buffer from a place on.
-use Rattle.std.specs.Prelude.{◌≡◌, List, ℕ, ◌+◌, ◌≤◌, ◌<◌, length}
+-- Bytes put into a lent buffer, behind those that are there.
+use Rattle.std.specs.Prelude.{◌≡◌, List, ℕ, ◌+◌, ◌≤◌, length}
 use Rattle.csv_text.specs.Filling.{over}
-use Rattle.csv_text.specs.Numbering.{part}
+use Rattle.report.specs.declared.put.Output.{Output}
 
--- the bytes stand at the byte `at`, all else is as it was, and r is where they end
-pub record Adds (lent : List ℕ) (at : ℕ) (bs : List ℕ) (r : ℕ) (buffer : List ℕ) : Type 0 where
-  pub counted : r ≡ at + length bs
-  pub written : buffer ≡ over lent at bs
+-- n bytes more have room
+abbrev pub Room : Output → ℕ → Type 0
+Room o n = o.filled + n ≤ length o.bytes.now
 
--- a member's record can be put: its fields stand between two marks of the text, the plan's number is one digit, and there is room
-pub record RecordRoom (text : List ℕ) (start end number : ℕ) (lent : List ℕ) (at : ℕ) : Type 0 where
-  pub ordered : start ≤ end
-  pub within : end ≤ length text
-  pub one_digit : number < 10
-  pub room : at + 4 + length (part text start end) ≤ length lent
+-- the bytes stand where the buffer was filled to, all else is as it was, and it is filled to where they end
+pub record Adds (o : Output) (bs : List ℕ) (o' : Output) : Type 0 where
+  pub same_buffer : o'.bytes.ghost_name ≡ o.bytes.ghost_name
+  pub counted : o'.filled ≡ o.filled + length bs
+  pub written : o'.bytes.now ≡ over o.bytes.now o.filled bs

@@ -1,4 +1,4 @@
--- What the program prints for a text (document 01, "The text and the program").
+-- What the program prints for a text.
 use Rattle.std.specs.Prelude.{◌≡◌, Bool, true, false, List, [], ◌∷◌, ◌++◌, ℕ, suc, ◌+◌, ◌/◌, ◌%◌, ◌≤◌, eqb, ltb, length, take, drop, replicate}
 use Rattle.basis.specs.Bytes.{bytes}
 use Rattle.basis.specs.Rows.{Row, Gives, GivesNone}

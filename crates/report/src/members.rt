@@ -1,86 +1,70 @@
 // The records of one plan's members: the text is walked once, and each entry's line that is a member's gives a record.
 ghost use Rattle.report.specs.Telling.{MemberRoom, MemberTold, Underway, Tells, Tellable, AllTold};
 
-use crate::put;
+use crate::put::Output;
 use csv_text::line;
-use csv_text::line::{EntryParts, Parsed};
+use csv_text::line::{EntryParts, Record};
 
-// How far the text is read, how many entries were declared so far, and how far the output is filled.
+// A plan that is shown: its set, and its number in the output.
+#[derive(Clone, Copy)]
+pub struct Shown {
+    pub set: u64,
+    pub number: u8,
+}
+
+// How far the text is read, and how many entries were declared so far.
 #[derive(Clone, Copy)]
 pub struct Place {
     pub at: usize,
     pub entries: u32,
-    pub filled: usize,
 }
 
-// The record of the entry whose line begins at a byte of the text, where it is a member. Its version field ends with the next comma.
-fn member(
-    text: &[u8],
-    from: usize,
-    entry: EntryParts,
-    set: u64,
-    index: u32,
-    number: u8,
-    out: &mut [u8],
-    at: usize,
-) -> usize
-    requires { MemberRoom text.now from entry number out.old at }
-    ensures { MemberTold text.now from entry set index number out.old at result out.new }
+// The record of the entry whose line a text begins with, where it is a member. Its version field ends with the next comma.
+fn member(rest: &[u8], entry: EntryParts, plan: Shown, index: u32, output: &mut Output)
+    requires { MemberRoom rest.now entry plan output.old }
+    ensures { MemberTold rest.now entry plan index output.old output.new }
 {
-    if !bitset::has(set, index) {
-        return at;
+    if !bitset::has(plan.set, index) {
+        return;
     }
-    let version = from + entry.name + 1;
-    let end = version + csv_text::plain_bytes(&text[version..]);
-    put::entry_record(text, from, end, number, out, at)
+    let version = entry.name + 1;
+    let end = version + csv_text::plain_bytes(&rest[version..]);
+    output.member(plan.number, &rest[..end]);
 }
 
 // Past one line more.
-fn next(text: &[u8], set: u64, number: u8, here: Place, out: &mut [u8]) -> Place
-    requires { Underway text.now set number here out.old }
-    ensures { Tells text.now set number here out.old result out.new }
+fn next(text: &[u8], plan: Shown, here: Place, output: &mut Output) -> Place
+    requires { Underway text.now plan here output.old }
+    ensures { Tells text.now plan here output.old result output.new }
 {
     let from = here.at + 2;
-    let found = line::parse(&text[from..]);
-    match found {
-        Parsed::Entry(entry) => {
-            let filled = member(
-                text,
-                from,
-                entry,
-                set,
-                here.entries,
-                number,
-                out,
-                here.filled,
-            );
+    let rest = &text[from..];
+    match line::parse(rest) {
+        Some(Record::Entry(entry)) => {
+            member(rest, entry, plan, here.entries, output);
             Place {
                 at: from + entry.used,
                 entries: here.entries + 1,
-                filled,
             }
         }
-        Parsed::Slot(slot) => Place {
+        Some(Record::Slot(slot)) => Place {
             at: from + slot.used,
             entries: here.entries,
-            filled: here.filled,
         },
-        Parsed::Bad => here,
+        None => here,
     }
 }
 
-// All members of the plan with this set and number.
-pub fn all(text: &[u8], set: u64, number: u8, out: &mut [u8], at: usize) -> usize
-    requires { Tellable text.now number out.old at }
-    ensures { AllTold text.now set number out.old at result out.new }
+// All members of a plan.
+pub fn all(text: &[u8], plan: Shown, output: &mut Output)
+    requires { Tellable text.now plan output.old }
+    ensures { AllTold text.now plan output.old output.new }
 {
     let mut here = Place {
         at: csv_text::HEADER,
         entries: 0,
-        filled: at,
     };
     while here.at + 2 < text.len() {
-        here = next(text, set, number, here, out);
+        here = next(text, plan, here, output);
     }
-    here.filled
 }

@@ -1,59 +1,59 @@
-// Bytes put into the output, from a place on.
-ghost use Rattle.std.specs.Prelude.{◌∷◌, ◌++◌, ◌+◌, ◌≤◌, length};
+// Bytes put into the output, each behind those before it.
+ghost use Rattle.std.specs.Prelude.{◌∷◌, ◌++◌, ◌+◌, ◌≤◌, ◌<◌, length};
+ghost use Rattle.basis.specs.Rows.{number_of};
 ghost use Rattle.csv_text.specs.Layout.{crlf};
-ghost use Rattle.csv_text.specs.Numbering.{part};
 ghost use Rattle.report.specs.Output.{decimal, refusing};
-ghost use Rattle.report.specs.Adding.{Adds, RecordRoom};
+ghost use Rattle.report.specs.Adding.{Adds, Room};
 
-// Copies bytes, and answers where they end.
-pub fn copy(bytes: &[u8], out: &mut [u8], at: usize) -> usize
-    requires { at + length bytes.now ≤ length out.old }
-    ensures { Adds out.old at bytes.now result out.new }
-{
-    let mut i = 0;
-    while i < bytes.len() {
-        out[at + i] = bytes[i];
-        i += 1;
+use basis::Refusal;
+
+// A lent buffer, and how far it is filled.
+#[derive(Drop)]
+pub struct Output<'a> {
+    pub bytes: &'a mut [u8],
+    pub filled: usize,
+}
+
+impl Output<'_> {
+    // Puts bytes behind those that are there.
+    pub fn put(&mut self, bytes: &[u8])
+        requires { Room self.old (length bytes.now) }
+        ensures { Adds self.old bytes.now self.new }
+    {
+        let end = self.filled + bytes.len();
+        self.bytes[self.filled..end].copy_from_slice(bytes);
+        self.filled = end;
     }
-    at + i
-}
 
-// A member's record: the plan's number, and the package and version fields, which stand between two marks of the text.
-pub fn entry_record(
-    text: &[u8],
-    start: usize,
-    end: usize,
-    number: u8,
-    out: &mut [u8],
-    at: usize,
-) -> usize
-    requires { RecordRoom text.now start end number out.old at }
-    ensures { Adds out.old at ((48 + number) ∷ 44 ∷ (part text.now start end ++ crlf)) result out.new }
-{
-    let front = [48 + number, b','];
-    let numbered = copy(&front, out, at);
-    let named = copy(&text[start..end], out, numbered);
-    copy(b"\r\n", out, named)
-}
-
-// A number in decimal and CR LF.
-fn decimal_line(number: u8, out: &mut [u8], at: usize) -> usize
-    requires { at + 4 ≤ length out.old }
-    ensures { Adds out.old at (decimal number ++ crlf) result out.new }
-{
-    if number < 10 {
-        let one = [48 + number, b'\r', b'\n'];
-        return copy(&one, out, at);
+    // A member's record: the plan's number, and the package and version fields, as they stand in the text.
+    pub fn member(&mut self, number: u8, fields: &[u8])
+        requires one_digit { number < 10 }
+        requires room { Room self.old (4 + length fields.now) }
+        ensures { Adds self.old ((48 + number) ∷ 44 ∷ (fields.now ++ crlf)) self.new }
+    {
+        self.put(&[b'0' + number, b',']);
+        self.put(fields);
+        self.put(b"\r\n");
     }
-    let two = [48 + number / 10, 48 + number % 10, b'\r', b'\n'];
-    copy(&two, out, at)
-}
 
-// The output of a refusal.
-pub fn refusal(number: u8, out: &mut [u8]) -> usize
-    requires { 13 ≤ length out.old }
-    ensures { Adds out.old 0 (refusing number) result out.new }
-{
-    let titled = copy(b"refusal\r\n", out, 0);
-    decimal_line(number, out, titled)
+    // A number in decimal and CR LF.
+    fn line(&mut self, number: u8)
+        requires { Room self.old 4 }
+        ensures { Adds self.old (decimal number ++ crlf) self.new }
+    {
+        if number < 10 {
+            self.put(&[b'0' + number, b'\r', b'\n']);
+        } else {
+            self.put(&[b'0' + number / 10, b'0' + number % 10, b'\r', b'\n']);
+        }
+    }
+
+    // The output of a refusal.
+    pub fn refusal(&mut self, refusal: Refusal)
+        requires { Room self.old 13 }
+        ensures { Adds self.old (refusing (number_of refusal)) self.new }
+    {
+        self.put(b"refusal\r\n");
+        self.line(u8::from(refusal));
+    }
 }

@@ -1,20 +1,19 @@
 -- The walk's loop at a node: whatever is still sought at the node that the loop began with, below the limit as it now is, is inside the node as it now is. Each
 -- thing that a turn of the loop does keeps that, and where it comes to an end the node is searched.
-use mathlib.Core.Path.{◌≡◌, refl, sym, ◌∙◌}
-use mathlib.Core.Bool.{false, true≢false}
+use mathlib.Core.Path.{◌≡◌, refl}
 use mathlib.Core.List.{List}
 use mathlib.Core.Logic.{◌⊎◌, inl, inr}
 use Prim.Native.Nat.{ℕ, ◌<◌}
 use lib.Bits.{bit_or}
 use lib.ListN.{length, get_or, set}
+use Rattle.std.specs.Prelude.{Option, Some, None}
 use Rattle.bitset.specs.Bits.{Member}
 use Rattle.bitset.proofs.Made.{join_members}
 use Rattle.pacsolve.specs.Problem.{Problem}
 use Rattle.pacsolve.specs.Plan.{Plan, chosen, MemberOf}
 use Rattle.pacsolve.specs.Listing.{Good, Asked}
-use Rattle.node.specs.declared.Best.{Best}
 use Rattle.node.specs.declared.Node.{Node}
-use Rattle.node.specs.Sought.{Limit, Inside, Sought, limit_of, asked_of}
+use Rattle.node.specs.Sought.{Limit, Inside, Sought}
 use Rattle.node.specs.Steps.{Only}
 use Rattle.node.specs.Narrowing.{Narrowed}
 use Rattle.node.proofs.Slotted.{Slotted}
@@ -42,7 +41,8 @@ module _ (p : Problem) (q : Asked) (lim₀ : Limit) (must₀ ban₀ : ℕ) (choi
       record {
         tightened = tightened_trans p q g.tightened s.tightened;
         spent = λ P x.
-            let earlier : Sought p q lim must₀ ban₀ choices₀ P = record { good = x.good; wanted = x.wanted; below = below_tightened p q lim lim' P s.tightened x.below; inside = x.inside } in
+            let earlier : Sought p q lim must₀ ban₀ choices₀ P =
+            record { good = x.good; wanted = x.wanted; below = below_tightened p q lim lim' P s.tightened x.below; inside = x.inside } in
             s.spent P (record { good = x.good; wanted = x.wanted; below = x.below; inside = g.keeps P earlier });
       }
 
@@ -90,13 +90,13 @@ module _ (p : Problem) (q : Asked) (lim₀ : Limit) (must₀ ban₀ : ℕ) (choi
       go P y (inr i) = i
 
 -- a narrowed node
-module _ (p : Problem) (given : Best) (past : List ℕ) (lim₀ : Limit) (must₀ ban₀ : ℕ) (choices₀ : List ℕ) (best : Best) (plan : List ℕ) (node node' : Node)
-    (choices choices' : List ℕ) (narrowed : Narrowed p given past best plan node choices node' choices')
-    (going : Going p (asked_of given past) lim₀ must₀ ban₀ choices₀ (limit_of best plan) node.must node.ban choices) where
-  pub going_narrowed : Going p (asked_of given past) lim₀ must₀ ban₀ choices₀ (limit_of best plan) node'.must node'.ban choices'
-  going_narrowed =
-      record { tightened = going.tightened; keeps = λ P s. (narrowed.keeps P (now_sought p (asked_of given past) lim₀ must₀ ban₀ choices₀ going P s)).1 }
+module _ (p : Problem) (q : Asked) (lim₀ : Limit) (must₀ ban₀ : ℕ) (choices₀ : List ℕ) (lim : Limit) (node : Node) (after : Option Node) (choices choices' : List ℕ)
+    (narrowed : Narrowed p q lim node choices after choices') (going : Going p q lim₀ must₀ ban₀ choices₀ lim node.must node.ban choices) where
+  pub going_narrowed : (next : Node) → after ≡ Some next → Going p q lim₀ must₀ ban₀ choices₀ lim next.must next.ban choices'
+  going_narrowed next e = record { tightened = going.tightened; keeps = λ P s. inside P (narrowed.keeps P (now_sought p q lim₀ must₀ ban₀ choices₀ going P s)) }
+    where
+      inside : (P : Plan) → (n : Node) × (after ≡ Some n) × Inside p n.must n.ban choices' P → Inside p next.must next.ban choices' P
+      inside P (n, f, i) = let its : n ≡ next = cc in rw its at i
 
-  pub going_dead : node'.alive ≡ false → Searched p (asked_of given past) lim₀ must₀ ban₀ choices₀ (limit_of best plan)
-  going_dead e =
-      going_spent p (asked_of given past) lim₀ must₀ ban₀ choices₀ going (λ P s. true≢false (sym (narrowed.keeps P s).0 ∙ e))
+  pub going_dead : after ≡ None → Searched p q lim₀ must₀ ban₀ choices₀ lim
+  going_dead e = going_spent p q lim₀ must₀ ban₀ choices₀ going (λ P s. let x = narrowed.keeps P s in let some : after ≡ Some x.0 = x.1 in cc)

@@ -1,7 +1,5 @@
 -- The laws of the walk and of its rounds.
-pub mod Choosing
 pub mod Complete
-pub mod Copying
 pub mod Falls
 pub mod Foremost
 pub mod Going

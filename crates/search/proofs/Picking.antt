@@ -3,7 +3,6 @@ use mathlib.Core.Path.{◌≡◌, sym, ◌∙◌}
 use mathlib.Core.List.{List}
 use Prim.Native.Nat.{ℕ}
 use native.Mathlib.Decide.{ℕ_discrete}
-use native.Mathlib.Omega.{arith}
 use lib.ListN.{get_or}
 use Rattle.bitset.specs.Bits.{Member}
 use Rattle.bitset.proofs.Sets.{none_in_empty}
@@ -12,25 +11,18 @@ use Rattle.search.specs.declared.Pick.{Pick}
 use Rattle.search.specs.declared.Pick.TheVariants.{Split, Force, Dead, Complete}
 use Rattle.search.specs.Picks.{Due, Settles, Picked, undecided, forced, dead, complete}
 
--- the cases by number
-abbrev pub which : Pick → ℕ
-which (Split s) = 0
-which (Force s) = 1
-which Dead = 2
-which Complete = 3
-
 module _ (slots : List ℕ) (must : ℕ) (choices : List ℕ) where
-  pub picked_dead : (a : Pick) → which a ≡ 2 → Picked slots must choices a → (s : ℕ) × Due slots must s × (get_or choices s 0 ≡ 0)
-  picked_dead a w (undecided d x y n e) = absurd (omega (arith, rw e at w))
-  picked_dead a w (forced d o n e) = absurd (omega (arith, rw e at w))
-  picked_dead a w (dead {s = s} d z e) = (s, d, z)
-  picked_dead a w (complete f e) = absurd (omega (arith, rw e at w))
+  pub picked_dead : (a : Pick) → a ≡ Dead → Picked slots must choices a → (s : ℕ) × Due slots must s × (get_or choices s 0 ≡ 0)
+  picked_dead a f (undecided d x y n e) = cc
+  picked_dead a f (forced d o n e) = cc
+  picked_dead a f (dead {s = s} d z e) = (s, d, z)
+  picked_dead a f (complete g e) = cc
 
-  pub picked_complete : (a : Pick) → which a ≡ 3 → Picked slots must choices a → Settles slots must choices
-  picked_complete a w (undecided d x y n e) = absurd (omega (arith, rw e at w))
-  picked_complete a w (forced d o n e) = absurd (omega (arith, rw e at w))
-  picked_complete a w (dead d z e) = absurd (omega (arith, rw e at w))
-  picked_complete a w (complete f e) = f
+  pub picked_complete : (a : Pick) → a ≡ Complete → Picked slots must choices a → Settles slots must choices
+  picked_complete a f (undecided d x y n e) = cc
+  picked_complete a f (forced d o n e) = cc
+  picked_complete a f (dead d z e) = cc
+  picked_complete a f (complete g e) = g
 
   pub record Forcing (s : ℕ) : Type 0 where
     pub due : Due slots must s
@@ -39,10 +31,10 @@ module _ (slots : List ℕ) (must : ℕ) (choices : List ℕ) where
     pub lacks : ¬ Member must only_one
 
   pub picked_force : (a : Pick) (t : ℕ) → a ≡ Force t → Picked slots must choices a → Forcing t
-  picked_force a t f (undecided d x y n e) = let no_such : ◌≡◌ {A = ℕ} 0 1 = cc in absurd (omega arith)
+  picked_force a t f (undecided d x y n e) = cc
   picked_force a t f (forced {s = s} {e = x} d o n e) = let its : t ≡ s = cc in rw its (record { due = d; only_one = x; only = o; lacks = n })
-  picked_force a t f (dead d z e) = let no_such : ◌≡◌ {A = ℕ} 0 1 = cc in absurd (omega arith)
-  picked_force a t f (complete g e) = let no_such : ◌≡◌ {A = ℕ} 0 1 = cc in absurd (omega arith)
+  picked_force a t f (dead d z e) = cc
+  picked_force a t f (complete g e) = cc
 
   pub record Splitting (s : ℕ) : Type 0 where
     pub due : Due slots must s
@@ -55,9 +47,9 @@ module _ (slots : List ℕ) (must : ℕ) (choices : List ℕ) where
   pub picked_split : (a : Pick) (t : ℕ) → a ≡ Split t → Picked slots must choices a → Splitting t
   picked_split a t f (undecided {s = s} {d = x} {e = y} d m n o e) =
       let its : t ≡ s = cc in rw its (record { due = d; one = x; other = y; is_one = m; is_other = n; differ = o })
-  picked_split a t f (forced d o n e) = let no_such : ◌≡◌ {A = ℕ} 0 1 = cc in absurd (omega arith)
-  picked_split a t f (dead d z e) = let no_such : ◌≡◌ {A = ℕ} 0 1 = cc in absurd (omega arith)
-  picked_split a t f (complete g e) = let no_such : ◌≡◌ {A = ℕ} 0 1 = cc in absurd (omega arith)
+  picked_split a t f (forced d o n e) = cc
+  picked_split a t f (dead d z e) = cc
+  picked_split a t f (complete g e) = cc
 
   -- whichever choice is taken, another is left
   pub another : (s : ℕ) → Splitting s → (e : ℕ) → (d : ℕ) × Member (get_or choices s 0) d × (¬ (d ≡ e))

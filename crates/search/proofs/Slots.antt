@@ -2,7 +2,6 @@
 use mathlib.Core.Path.{◌≡◌}
 use mathlib.Core.List.{List}
 use Prim.Native.Nat.{ℕ, ◌/◌, ◌<◌}
-use native.Mathlib.Omega.{arith}
 use lib.ListN.{length, get_or}
 use Rattle.bitset.specs.Bits.{Member}
 use Rattle.catalogue.specs.Spans.{owner_in}
@@ -18,9 +17,9 @@ abbrev pub Quiet : ℕ → ℕ → ℕ → Type 0
 Quiet must owner choices = Member must owner → (e : ℕ) × Only choices e × Member must e
 
 pub quiet : {must owner choices : ℕ} {a : Standing} → Stands must owner choices a → a ≡ Fine → Quiet must owner choices
-quiet (wide m x y n e) f = let z : ◌≡◌ {A = ℕ} 0 1 = cc in absurd (omega arith)
-quiet (narrow m o n e) f = let z : ◌≡◌ {A = ℕ} 0 1 = cc in absurd (omega arith)
-quiet (stuck m o e) f = let z : ◌≡◌ {A = ℕ} 0 1 = cc in absurd (omega arith)
+quiet (wide m x y n e) f = cc
+quiet (narrow m o n e) f = cc
+quiet (stuck m o e) f = cc
 quiet (fine q e) f = q
 
 -- what is to be done at a slot, by how it stands

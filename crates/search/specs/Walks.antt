@@ -1,11 +1,13 @@
 -- What the walk promises: below its new limit nothing that is sought is left at the node.
-use Rattle.std.specs.Prelude.{◌≡◌, true, List, ◌⊎◌, ℕ}
+use Rattle.std.specs.Prelude.{◌≡◌, List, ◌⊎◌, ℕ}
 use Rattle.pacsolve.specs.Problem.{Problem}
 use Rattle.pacsolve.specs.Plan.{Plan}
 use Rattle.pacsolve.specs.Listing.{Good, Asked, Wanted}
-use Rattle.node.specs.declared.Best.{Best}
+use Rattle.pacsolve.specs.declared.Listed.{Listed}
+use Rattle.node.specs.declared.Limit.{Limit as DeclaredLimit}
+use Rattle.node.specs.declared.Limit.TheVariants.{Before}
 use Rattle.node.specs.declared.Node.{Node}
-use Rattle.node.specs.Sought.{Limit, before, Below, Sought, limit_of, asked_of, Costed}
+use Rattle.node.specs.Sought.{Limit, before, Below, Sought, limit_of, CostedLimit}
 
 -- nothing that is sought is left at a node
 abbrev pub Spent : Problem → Asked → Limit → ℕ → ℕ → List ℕ → Type 0
@@ -21,9 +23,12 @@ pub record Searched (p : Problem) (q : Asked) (lim : Limit) (must ban : ℕ) (ch
   pub tightened : Tightened p q lim lim'
   pub spent : Spent p q lim' must ban choices
 
--- the node is searched: below the new best nothing is left of what was asked for
-pub record Walked (p : Problem) (given : Best) (past : List ℕ) (node : Node) (choices : List ℕ) (best : Best) (buffer : List ℕ) (r : Best) (buffer' : List ℕ) : Type 0 where
-  pub searched : Searched p (asked_of given past) (limit_of best buffer) node.must node.ban choices (limit_of r buffer')
-  pub costed : Costed p r
-  -- the buffer is written only with a plan
-  pub written : (r.found ≡ true) ⊎ ((buffer' ≡ buffer) × (r.found ≡ best.found))
+-- the buffer is written only with a plan
+abbrev pub Written : DeclaredLimit → List ℕ → DeclaredLimit → List ℕ → Type 0
+Written limit buffer limit' buffer' = ((best : Listed) × (limit' ≡ Before best)) ⊎ ((buffer' ≡ buffer) × (limit' ≡ limit))
+
+-- the node is searched: below the new limit nothing is left of what was asked for
+pub record Walked (p : Problem) (q : Asked) (node : Node) (choices : List ℕ) (limit : DeclaredLimit) (buffer : List ℕ) (limit' : DeclaredLimit) (buffer' : List ℕ) : Type 0 where
+  pub searched : Searched p q (limit_of limit buffer) node.must node.ban choices (limit_of limit' buffer')
+  pub costed : CostedLimit p limit'
+  pub written : Written limit buffer limit' buffer'

@@ -7,10 +7,7 @@ fn cheapest(all: u64, price: &[u64; 64]) -> u32
     ensures { ¬ (all ≡ 0) → Member all result }
 {
     let mut best = bitset::lowest(all);
-    let mut rest = bitset::without(all, best);
-    while rest != 0 {
-        let e = bitset::lowest(rest);
-        rest = bitset::without(rest, e);
+    for e in bitset::members(all) {
         if price[e as usize] < price[best as usize] {
             best = e;
         }

@@ -1,64 +1,52 @@
-// A node where every slot of a must entry has one choice holds one plan at most: it is put to the six conditions, to what is asked for and to the best so far.
-ghost use Rattle.std.specs.Prelude.{length, ◌≡◌};
-ghost use Rattle.catalogue.specs.Survey.{tabled};
+// A node where every slot of a must entry has one choice holds one plan at most: it is put to the six conditions, to what is asked for and to the limit.
+ghost use Rattle.basis.specs.Tests.{Decides};
+ghost use Rattle.plan.specs.Posing.{problem_by};
 ghost use Rattle.node.specs.Narrowing.{Ready};
+ghost use Rattle.node.specs.Order.{AfterGiven, Sooner};
+ghost use Rattle.node.specs.Sought.{CostedGiven, asked_of};
 ghost use Rattle.search.specs.Picks.{Settles};
 ghost use Rattle.search.specs.Walks.{Walked};
 
 use crate::table::table_of;
-use catalogue::Settings;
-use node::order::{ahead_if, sooner};
-use node::{Best, Node};
-use plan::Checked;
+use node::order::{after_given, sooner};
+use node::{Given, Limit, Node};
+use pacsolve::{Cost, Listed, Plan};
+use plan::Problem;
 use plan::judging::judge;
 
-// A table put into the plan buffer.
-pub fn store(table: &[u8], plan: &mut [u8])
-    requires { length table.now ≡ length plan.old }
-    ensures { plan.new ≡ table.now }
+// Whether a plan is asked for and lies below the limit.
+fn sought(given: Option<Given>, limit: Limit, best_table: &[u8], cost: Cost, table: &[u8]) -> bool
+    ensures { Decides result (AfterGiven given.entry cost table.now × Sooner limit best_table.now cost table.now) }
 {
-    let mut i = 0;
-    while i < table.len() {
-        plan[i] = table[i];
-        i += 1;
-    }
+    after_given(given, cost, table) && sooner(limit, best_table, cost, table)
 }
 
 pub fn keep(
-    entries: &[u16],
-    slots: &[u16],
-    settings: Settings,
-    objectives: &[u8],
-    fits: &[u64; 256],
-    given: Best,
-    past: &[u8],
+    problem: &Problem,
+    given: Option<Given>,
     node: Node,
     choices: &[u64; 256],
-    best: Best,
+    limit: Limit,
     plan: &mut [u8],
-) -> Best
-    requires ready { Ready (tabled entries.now slots.now settings objectives.now fits.now) given past.now node best plan.old }
-    requires settles { Settles slots.now node.must choices.now }
-    ensures { Walked (tabled entries.now slots.now settings objectives.now fits.now) given past.now node choices.now best plan.old result plan.new }
+) -> Limit
+    requires ready { Ready (problem_by problem.now) node limit plan.old }
+    requires given_costed { CostedGiven (problem_by problem.now) given }
+    requires settles { Settles problem.now.slots.now node.must choices.now }
+    ensures { Walked (problem_by problem.now) (asked_of given.entry) node choices.now limit plan.old result plan.new }
 {
-    let must = node.must;
-    let table = table_of(slots, must, choices);
-    let m = plan.len();
-    let candidate = &table[..m];
-    let judged = judge(entries, slots, settings, objectives, fits, must, candidate);
-    let Checked::Sound(cost) = judged else {
-        return best;
+    let set = node.must;
+    let table = table_of(problem.slots, set, choices);
+    let candidate = &table[..plan.len()];
+    let its = Plan {
+        set,
+        table: candidate,
     };
-    if !ahead_if(given.found, given.cost, past, cost, candidate) {
-        return best;
+    let Ok(cost) = judge(problem, &its) else {
+        return limit;
+    };
+    if !sought(given, limit, plan, cost, candidate) {
+        return limit;
     }
-    if !sooner(best.found, cost, candidate, best.cost, plan) {
-        return best;
-    }
-    store(candidate, plan);
-    Best {
-        found: true,
-        set: must,
-        cost,
-    }
+    plan.copy_from_slice(candidate);
+    Limit::Before(Listed { set, cost })
 }

@@ -1,23 +1,26 @@
 // The least plan of those asked for: the walk from the node that every plan is inside of, narrowed once, in rounds. A round looks below a bound on the first number of
 // the cost; where it finds a plan, that is the least of all, and where it finds none there is none below the bound. So any rising bounds are right.
-ghost use Rattle.std.specs.Prelude.{List, ◌⊎◌, false, ◌≡◌, ℕ, ◌+◌, ◌/◌, ◌≤◌, ◌<◌, length};
+ghost use Rattle.std.specs.Prelude.{List, ℕ, ◌⊎◌, ◌≡◌, ◌+◌, ◌/◌, ◌≤◌, ◌<◌, Some, length};
+ghost use Rattle.bitset.specs.Changes.{With};
 ghost use Rattle.catalogue.specs.declared.Settings.{Settings as Setting};
-ghost use Rattle.catalogue.specs.Spans.{Bounded};
+ghost use Rattle.catalogue.specs.Spans.{Rising};
 ghost use Rattle.catalogue.specs.Survey.{tabled};
+ghost use Rattle.plan.specs.Posing.{problem_by};
 ghost use Rattle.price.specs.Floor.{Moderate};
-ghost use Rattle.node.specs.Facts.{Facts};
+ghost use Rattle.price.specs.Worth.{Apart};
+ghost use Rattle.node.specs.Facts.{FactsFor, FactsOf};
 ghost use Rattle.node.specs.Sought.{asked_of};
 ghost use Rattle.search.specs.Found.{Posed, Whole, Above, Found, FoundUnder, firstly};
 
 use crate::walk::walk;
-use catalogue::Settings;
-use catalogue::spans::spans;
+use catalogue::spans::SlotSpans;
 use node::clash::{alikes, clashes};
 use node::narrow::narrow;
-use node::{Best, Node};
-use pacsolve::Cost;
+use node::{Facts, Given, Limit, Node};
+use pacsolve::{Cost, Listed};
+use plan::Problem;
 use plan::costs::weight;
-use price::Scale;
+use price::Rates;
 use price::floor::{Ground, lay};
 use price::packages::base_prices;
 use price::worths::scale;
@@ -25,63 +28,53 @@ use price::worths::scale;
 // More than the first number of any cost: all weights together, or the other numbers, which stay below 128.
 fn above(entries: &[u16]) -> u32
     requires { length entries.now / 5 ≤ 64 }
-    ensures { (result ≤ 4194432) × ((slots objectives fits : List ℕ) (settings : Setting) → Above (tabled entries.now slots settings objectives fits) result) }
+    ensures most { result ≤ 4194432 }
+    ensures above { (slots objectives fits : List ℕ) (settings : Setting) → Above (tabled entries.now slots settings objectives fits) result }
 {
-    let none: u64 = 0;
-    weight(entries, !none) + 128
+    weight(entries, u64::MAX) + 128
 }
 
 // No plan yet, and a bound on the first number of the cost.
-fn under(bound: u32) -> Best
-    ensures { (result.found ≡ false) × (result.cost ≡ firstly bound) }
+fn under(bound: u32) -> Limit
+    ensures { result ≡ Limit.Under (firstly bound) }
 {
-    let cost = Cost {
+    Limit::Under(Cost {
         first: bound,
         second: 0,
         third: 0,
-    };
-    Best {
-        found: false,
-        set: 0,
-        cost,
+    })
+}
+
+// What the search works out of the tables.
+fn facts_of(entries: &[u16], slots: &[u16], objectives: &[u8], mode: u8) -> Facts
+    requires few_entries { length entries.now / 5 ≤ 64 }
+    requires few_slots { length slots.now / 4 ≤ 256 }
+    requires rising { Rising slots.now }
+    requires apart { Apart objectives.now }
+    ensures { FactsOf entries.now slots.now objectives.now mode result }
+{
+    let spans = SlotSpans::of(slots);
+    let alike = alikes(entries);
+    let clash = clashes(entries, mode, &alike);
+    let scale = scale(objectives);
+    let base = base_prices(entries, objectives, scale);
+    let rates = Rates { alike, base, scale };
+    Facts {
+        spans,
+        clash,
+        rates,
     }
 }
 
-// The node that every plan is inside of, narrowed.
-fn start(
-    entries: &[u16],
-    slots: &[u16],
-    first: &[usize; 65],
-    settings: Settings,
-    objectives: &[u8],
-    fits: &[u64; 256],
-    given: Best,
-    past: &[u8],
-    top: u32,
-    plan: &[u8],
-    left: &mut [u64; 256],
-    clash: &[u64; 64],
-    alike: &[u64; 64],
-    base: &[u64; 64],
-    scale: Scale,
-    price: &mut [u64; 64],
-) -> Node
-    requires posed { Posed (tabled entries.now slots.now settings objectives.now fits.now) given past.now plan.now }
-    requires facts { (left.old ≡ fits.now) × (Above (tabled entries.now slots.now settings objectives.now fits.now) top × Facts entries.now slots.now objectives.now settings.mode clash.now alike.now base.now first.now scale) }
-    ensures { Whole (tabled entries.now slots.now settings objectives.now fits.now) (asked_of given past.now) result left.new × (length left.new ≡ length left.old) }
+// The node that every plan is inside of.
+fn root_alone(root: u32) -> Node
+    ensures must { With 0 root result.must }
+    ensures free { result.ban ≡ 0 }
 {
-    let root = settings.root as u32;
-    let must = bitset::with(0, root);
-    let node = Node {
-        must,
+    Node {
+        must: bitset::with(0, root),
         ban: 0,
-        alive: true,
-    };
-    let nothing = under(top);
-    narrow(
-        entries, slots, first, settings, objectives, fits, given, past, nothing, plan, node, left,
-        clash, alike, base, scale, price,
-    )
+    }
 }
 
 // The first number that a floor comes to, and no more than a bound.
@@ -89,157 +82,102 @@ fn first_of(ground: Ground, unit: u64, top: u32) -> u32 {
     if unit == 0 {
         return 0;
     }
-    if ground.sum < ground.credit {
-        return 0;
-    }
-    let first = (ground.sum - ground.credit) / unit;
-    if first < top as u64 {
-        return first as u32;
-    }
-    top
+    let first = ground.sum.saturating_sub(ground.credit) / unit;
+    first.min(top as u64) as u32
 }
 
 // A bound to begin with: the floor of the node, or the given plan's cost. No promise rests on it.
-fn guess(
-    first: &[usize; 65],
-    given: Best,
-    must: u64,
-    left: &[u64; 256],
-    top: u32,
-    alike: &[u64; 64],
-    base: &[u64; 64],
-    scale: Scale,
-) -> u32
-    requires { ((length alike.now ≡ 64) × Moderate base.now scale) × (Bounded first.now) }
+fn guess(facts: &Facts, given: Option<Given>, must: u64, left: &[u64; 256], top: u32) -> u32
+    requires { Moderate facts.now.rates.base facts.now.rates.scale }
 {
     let mut price = [0u64; 64];
-    let ground = lay(alike, base, scale, first, must, left, &mut price);
-    let low = first_of(ground, scale.first, top);
-    if given.found {
-        if low < given.cost.first {
-            return given.cost.first;
-        }
+    let ground = lay(&facts.rates, &facts.spans, must, left, &mut price);
+    let low = first_of(ground, facts.rates.scale.first, top);
+    match given {
+        Some(known) => low.max(known.cost.first),
+        None => low,
     }
-    low
 }
 
 // One round.
 fn round(
-    entries: &[u16],
-    slots: &[u16],
-    first: &[usize; 65],
-    settings: Settings,
-    objectives: &[u8],
-    fits: &[u64; 256],
-    given: Best,
-    past: &[u8],
+    problem: &Problem,
+    facts: &Facts,
+    given: Option<Given>,
     node: Node,
     left: &[u64; 256],
     bound: u32,
     plan: &mut [u8],
-    clash: &[u64; 64],
-    alike: &[u64; 64],
-    base: &[u64; 64],
-    scale: Scale,
-) -> Best
-    requires posed { Posed (tabled entries.now slots.now settings objectives.now fits.now) given past.now plan.old }
-    requires whole { (length left.now ≡ 256) × (Whole (tabled entries.now slots.now settings objectives.now fits.now) (asked_of given past.now) node left.now × Facts entries.now slots.now objectives.now settings.mode clash.now alike.now base.now first.now scale) }
-    ensures { FoundUnder (tabled entries.now slots.now settings objectives.now fits.now) (asked_of given past.now) (firstly bound) plan.old result plan.new }
+) -> Option<Listed>
+    requires posed { Posed (problem_by problem.now) given plan.old }
+    requires whole { Whole (problem_by problem.now) (asked_of given) (Some node) left.now }
+    requires known { FactsFor problem.now facts.now }
+    ensures { FoundUnder (problem_by problem.now) (asked_of given.entry) (firstly bound) plan.old result plan.new }
 {
-    let nothing = under(bound);
-    walk(
-        entries, slots, first, settings, objectives, fits, given, past, node, left, nothing, plan,
-        clash, alike, base, scale,
-    )
+    match walk(problem, facts, given, node, left, under(bound), plan) {
+        Limit::Before(best) => Some(best),
+        Limit::Under(_) => None,
+    }
 }
 
 // A bound with more, and no more than the top.
 fn raised(bound: u32, more: u32, top: u32) -> u32
     ensures { (result ≡ top) ⊎ ((result ≡ bound + more) × (result < top)) }
 {
-    if top <= bound {
-        return top;
-    }
-    if top - bound <= more {
-        return top;
-    }
-    bound + more
+    bound.saturating_add(more).min(top)
 }
 
 // Rounds with bounds that rise ever faster, up to the top, which is above every cost.
 fn rounds(
-    entries: &[u16],
-    slots: &[u16],
-    first: &[usize; 65],
-    settings: Settings,
-    objectives: &[u8],
-    fits: &[u64; 256],
-    given: Best,
-    past: &[u8],
+    problem: &Problem,
+    facts: &Facts,
+    given: Option<Given>,
     node: Node,
     left: &[u64; 256],
-    low: u32,
     top: u32,
     plan: &mut [u8],
-    clash: &[u64; 64],
-    alike: &[u64; 64],
-    base: &[u64; 64],
-    scale: Scale,
-) -> Best
-    requires posed { Posed (tabled entries.now slots.now settings objectives.now fits.now) given past.now plan.old }
-    requires whole { (length left.now ≡ 256) × ((top ≤ 4194432) × (Above (tabled entries.now slots.now settings objectives.now fits.now) top × (Whole (tabled entries.now slots.now settings objectives.now fits.now) (asked_of given past.now) node left.now × Facts entries.now slots.now objectives.now settings.mode clash.now alike.now base.now first.now scale))) }
-    ensures { Found (tabled entries.now slots.now settings objectives.now fits.now) (asked_of given past.now) plan.old result plan.new }
+) -> Option<Listed>
+    requires posed { Posed (problem_by problem.now) given plan.old }
+    requires whole { Whole (problem_by problem.now) (asked_of given) (Some node) left.now }
+    requires known { FactsFor problem.now facts.now }
+    requires most { top ≤ 4194432 }
+    requires above { Above (problem_by problem.now) top }
+    ensures { Found (problem_by problem.now) (asked_of given.entry) plan.old result plan.new }
 {
-    let mut bound = low;
+    let mut bound = guess(facts, given, node.must, left, top);
     let mut more: u32 = 1;
     loop {
         bound = raised(bound, more, top);
-        let best = round(
-            entries, slots, first, settings, objectives, fits, given, past, node, left, bound,
-            plan, clash, alike, base, scale,
-        );
-        if best.found {
-            return best;
-        }
-        if bound == top {
+        let best = round(problem, facts, given, node, left, bound, plan);
+        if best.is_some() || bound == top {
             return best;
         }
         more *= 2;
     }
 }
 
-pub fn least(
-    entries: &[u16],
-    slots: &[u16],
-    settings: Settings,
-    objectives: &[u8],
-    fits: [u64; 256],
-    given: Best,
-    past: &[u8],
-    plan: &mut [u8],
-) -> Best
-    requires { Posed (tabled entries.now slots.now settings objectives.now fits) given past.now plan.old }
-    ensures { Found (tabled entries.now slots.now settings objectives.now fits) (asked_of given past.now) plan.old result plan.new }
+pub fn least(problem: &Problem, given: Option<Given>, plan: &mut [u8]) -> Option<Listed>
+    requires { Posed (problem_by problem.now) given plan.old }
+    ensures { Found (problem_by problem.now) (asked_of given.entry) plan.old result plan.new }
 {
-    let first = spans(slots);
-    let alike = alikes(entries);
-    let clash = clashes(entries, settings.mode, &alike);
-    let units = scale(objectives);
-    let base = base_prices(entries, objectives, units);
-    let top = above(entries);
-    let mut left = fits;
-    let mut price = [0u64; 64];
-    let node = start(
-        entries, slots, &first, settings, objectives, &fits, given, past, top, plan, &mut left,
-        &clash, &alike, &base, units, &mut price,
+    let facts = facts_of(
+        problem.entries,
+        problem.slots,
+        problem.objectives,
+        problem.settings.mode,
     );
-    let alive = node.alive;
-    if !alive {
-        return under(top);
-    }
-    let low = guess(&first, given, node.must, &left, top, &alike, &base, units);
-    rounds(
-        entries, slots, &first, settings, objectives, &fits, given, past, node, &left, low, top,
-        plan, &clash, &alike, &base, units,
-    )
+    let top = above(problem.entries);
+    let root = root_alone(problem.settings.root as u32);
+    let mut left = *problem.fits;
+    let mut price = [0u64; 64];
+    let node = narrow(
+        problem,
+        &facts,
+        under(top),
+        plan,
+        root,
+        &mut left,
+        &mut price,
+    )?;
+    rounds(problem, &facts, given, node, &left, top, plan)
 }

@@ -3,7 +3,7 @@ ghost use Rattle.std.specs.Prelude.{◌/◌, ◌≤◌, length};
 ghost use Rattle.search.specs.Picks.{Stands, Picked};
 
 use crate::Pick;
-use crate::rank::{Lead, Rank, leading, rank_of};
+use crate::rank::{Lead, leading, rank_of};
 use node::holds::{Held, held_by};
 
 // How a slot stands.
@@ -42,31 +42,21 @@ pub fn pick(slots: &[u16], must: u64, choices: &[u64; 256], price: &[u64; 64]) -
     requires { length slots.now / 4 ≤ 256 }
     ensures { Picked slots.now must choices.now result }
 {
-    let count = slots.len() / 4;
-    let rank = Rank {
-        met: true,
-        count: 0,
-        dear: 0,
-    };
-    let mut best = Lead {
-        found: false,
-        slot: 0,
-        rank,
-    };
-    let mut s: usize = 0;
-    while s < count {
-        match look_at(must, slots[s * 4] as u32, choices[s]) {
+    let mut best: Option<Lead> = None;
+    for s in 0..slots.len() / 4 {
+        let left = choices[s];
+        match look_at(must, slots[s * 4] as u32, left) {
             Standing::Fine => {}
             Standing::Open => {
-                best = leading(best, s, rank_of(must, choices[s], price));
+                let rank = rank_of(must, left, price);
+                best = Some(leading(best, Lead { slot: s, rank }));
             }
             Standing::Narrow => return Pick::Force(s),
             Standing::Stuck => return Pick::Dead,
         }
-        s += 1;
     }
-    if best.found {
-        return Pick::Split(best.slot);
+    match best {
+        Some(lead) => Pick::Split(lead.slot),
+        None => Pick::Complete,
     }
-    Pick::Complete
 }

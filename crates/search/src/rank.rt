@@ -1,76 +1,51 @@
 // Which of the open slots is decided first. Any order finds the same plans; this one leaves less to walk through.
 ghost use Rattle.search.specs.Ranking.{Leads};
 
-// How a slot ranks: whether a must entry is one of its choices, how many choices it has, and what they cost together.
-#[derive(Clone, Copy)]
+// How a slot ranks: whether a must entry is one of its choices, how many choices it has, and how little they cost together, as what is left of the highest number. So the
+// lower rank is that of a slot that is not met, then of one with fewer choices, then of one with dearer ones.
+#[derive(Clone, Copy, PartialEq, Eq, PartialOrd, Ord)]
 pub struct Rank {
     pub met: bool,
     pub count: u32,
-    pub dear: u64,
+    pub cheap: u64,
 }
 
-// The slot that leads so far, where there is one.
+// The slot that leads.
 #[derive(Clone, Copy)]
 pub struct Lead {
-    pub found: bool,
     pub slot: usize,
     pub rank: Rank,
 }
 
-// A sum, or the highest number where the sum would be above it.
-fn capped_sum(a: u64, b: u64) -> u64 {
-    if u64::MAX - a < b {
-        return u64::MAX;
-    }
-    a + b
-}
-
+// What choices cost together, or the highest number where the sum would be above it.
 fn dearness(choices: u64, price: &[u64; 64]) -> u64 {
     let mut sum: u64 = 0;
-    let mut rest = choices;
-    while rest != 0 {
-        let e = bitset::lowest(rest);
-        sum = capped_sum(sum, price[e as usize]);
-        rest = bitset::without(rest, e);
+    for e in bitset::members(choices) {
+        sum = sum.saturating_add(price[e as usize]);
     }
     sum
 }
 
 pub fn rank_of(must: u64, choices: u64, price: &[u64; 64]) -> Rank {
-    let met = must & choices != 0;
-    let count = bitset::count(choices);
-    let dear = dearness(choices, price);
-    Rank { met, count, dear }
+    Rank {
+        met: must & choices != 0,
+        count: bitset::count(choices),
+        cheap: u64::MAX - dearness(choices, price),
+    }
 }
 
-// Whether a slot is decided before an earlier one: of two that cost nothing it is not, else one that is not met comes first, then fewer choices, then dearer ones.
+// Whether a slot is decided before an earlier one: of two that cost nothing it is not, else the lower rank comes first.
 fn sooner(late: Rank, early: Rank) -> bool {
-    if late.dear == 0 {
-        if early.dear == 0 {
-            return false;
-        }
-    }
-    if late.met != early.met {
-        return early.met;
-    }
-    if late.count != early.count {
-        return late.count < early.count;
-    }
-    early.dear < late.dear
+    let free = late.cheap == u64::MAX && early.cheap == u64::MAX;
+    !free && late < early
 }
 
 // Who leads when a later slot comes up.
-pub fn leading(best: Lead, slot: usize, rank: Rank) -> Lead
-    ensures { Leads best slot result }
+pub fn leading(best: Option<Lead>, next: Lead) -> Lead
+    ensures { Leads best next result }
 {
-    if best.found {
-        if !sooner(rank, best.rank) {
-            return best;
-        }
-    }
-    Lead {
-        found: true,
-        slot,
-        rank,
+    match best {
+        Some(early) if !sooner(next.rank, early.rank) => early,
+        _ => next,
     }
 }

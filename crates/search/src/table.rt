@@ -2,6 +2,8 @@
 ghost use Rattle.std.specs.Prelude.{◌/◌, ◌≤◌, length};
 ghost use Rattle.search.specs.Picks.{Entered, Tabled};
 
+use node::tables::tabled;
+
 // What a slot holds: its lowest choice if its owner must be there, else none.
 fn held_in(must: u64, owner: u32, choices: u64) -> u8
     ensures { Entered must owner choices result }
@@ -16,12 +18,5 @@ pub fn table_of(slots: &[u16], must: u64, choices: &[u64; 256]) -> [u8; 256]
     requires { length slots.now / 4 ≤ 256 }
     ensures { Tabled slots.now must choices.now result }
 {
-    let count = slots.len() / 4;
-    let mut table = [255u8; 256];
-    let mut s: usize = 0;
-    while s < count {
-        table[s] = held_in(must, slots[s * 4] as u32, choices[s]);
-        s += 1;
-    }
-    table
+    tabled(slots, choices, |owner, all| held_in(must, owner, all))
 }

@@ -1,9 +1,9 @@
 // The walk over nodes: a node is narrowed, a slot is decided in every way that is left, and a node with nothing to decide holds one plan.
-ghost use Rattle.std.specs.Int.Bits.{bit_or};
-ghost use Rattle.std.specs.Prelude.{length, ◌≡◌, ℕ, ◌^◌, ◌<◌};
-ghost use Rattle.catalogue.specs.Survey.{tabled};
-ghost use Rattle.node.specs.Facts.{Facts};
+ghost use Rattle.std.specs.Prelude.{◌≡◌, ℕ, ◌^◌, ◌<◌, bit_or};
+ghost use Rattle.plan.specs.Posing.{problem_by};
+ghost use Rattle.node.specs.Facts.{FactsFor};
 ghost use Rattle.node.specs.Narrowing.{Ready};
+ghost use Rattle.node.specs.Sought.{CostedGiven, asked_of};
 ghost use Rattle.search.specs.Picks.{Halved};
 ghost use Rattle.search.specs.Walks.{Walked};
 
@@ -11,10 +11,9 @@ use crate::Pick;
 use crate::choose::choose;
 use crate::keep::keep;
 use crate::pick_slot::pick;
-use catalogue::Settings;
 use node::narrow::narrow;
-use node::{Best, Node};
-use price::Scale;
+use node::{Facts, Given, Limit, Node};
+use plan::Problem;
 
 // A choice of several, and the others.
 #[derive(Clone, Copy)]
@@ -25,7 +24,8 @@ struct Halves {
 
 // Any choice will do: one that must be there anyway if there is one, else the cheapest.
 fn halve(all: u64, must: u64, price: &[u64; 64]) -> Halves
-    ensures { (all < 2 ^ 64) × (¬ (all ≡ 0) → (e : ℕ) × Halved all result.one result.rest e) }
+    ensures fits { all < 2 ^ 64 }
+    ensures parted { ¬ (all ≡ 0) → (e : ℕ) × Halved all result.one result.rest e }
 {
     let e = choose(all, must, price);
     let one = bitset::with(0, e);
@@ -35,66 +35,47 @@ fn halve(all: u64, must: u64, price: &[u64; 64]) -> Halves
 
 // A node with the only choice of a slot as a must.
 fn forced(node: Node, only: u64) -> Node
-    ensures { (result.must ≡ bit_or node.must only) × ((result.ban ≡ node.ban) × (only < 2 ^ 64)) }
+    ensures fits { only < 2 ^ 64 }
+    ensures forced { result ≡ record { must = bit_or node.must only; ban = node.ban } }
 {
-    let must = node.must | only;
-    let ban = node.ban;
-    let alive = node.alive;
-    Node { must, ban, alive }
+    Node {
+        must: node.must | only,
+        ban: node.ban,
+    }
 }
 
+// (The problem, the facts and the given plan stay parameters of their own: narrow, pick and keep each take others of them, so a struct would be taken apart at every call.)
 pub fn walk(
-    entries: &[u16],
-    slots: &[u16],
-    first: &[usize; 65],
-    settings: Settings,
-    objectives: &[u8],
-    fits: &[u64; 256],
-    given: Best,
-    past: &[u8],
+    problem: &Problem,
+    facts: &Facts,
+    given: Option<Given>,
     node: Node,
     choices: &[u64; 256],
-    best: Best,
+    limit: Limit,
     plan: &mut [u8],
-    clash: &[u64; 64],
-    alike: &[u64; 64],
-    base: &[u64; 64],
-    scale: Scale,
-) -> Best
-    requires { (Ready (tabled entries.now slots.now settings objectives.now fits.now) given past.now node best plan.old) × ((length choices.now ≡ 256) × Facts entries.now slots.now objectives.now settings.mode clash.now alike.now base.now first.now scale) }
-    ensures { Walked (tabled entries.now slots.now settings objectives.now fits.now) given past.now node choices.now best plan.old result plan.new }
+) -> Limit
+    requires ready { Ready (problem_by problem.now) node limit plan.old }
+    requires given_costed { CostedGiven (problem_by problem.now) given }
+    requires known { FactsFor problem.now facts.now }
+    ensures { Walked (problem_by problem.now) (asked_of given.entry) node choices.now limit plan.old result plan.new }
 {
     let mut at = node;
     let mut left = *choices;
-    let mut found = best;
+    let mut found = limit;
     let mut price = [0u64; 64];
-    loop {
-        at = narrow(
-            entries, slots, first, settings, objectives, fits, given, past, found, plan, at,
-            &mut left, clash, alike, base, scale, &mut price,
-        );
-        let alive = at.alive;
-        if !alive {
-            return found;
-        }
-        let must = at.must;
-        match pick(slots, must, &left, &price) {
+    while let Some(next) = narrow(problem, facts, found, plan, at, &mut left, &mut price) {
+        at = next;
+        match pick(problem.slots, at.must, &left, &price) {
             Pick::Dead => return found,
-            Pick::Complete => return keep(
-                entries, slots, settings, objectives, fits, given, past, at, &left, found, plan,
-            ),
-            Pick::Force(s) => {
-                at = forced(at, left[s]);
-            }
+            Pick::Complete => return keep(problem, given, at, &left, found, plan),
+            Pick::Force(s) => at = forced(at, left[s]),
             Pick::Split(s) => {
-                let halves = halve(left[s], must, &price);
+                let halves = halve(left[s], at.must, &price);
                 left[s] = halves.one;
-                found = walk(
-                    entries, slots, first, settings, objectives, fits, given, past, at, &left,
-                    found, plan, clash, alike, base, scale,
-                );
+                found = walk(problem, facts, given, at, &left, found, plan);
                 left[s] = halves.rest;
             }
         }
     }
+    found
 }

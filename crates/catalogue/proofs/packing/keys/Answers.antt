@@ -1,18 +1,15 @@
--- `catalogue::packing::keys` meets its contract. The loop's invariant: the list holds the key of each entry passed. The measure is the entries left.
-use borrow.Author.Rules.{rules}
-use native.Mathlib.Omega.{arith}
-use Rattle.catalogue.proofs.Searches.{filled_more}
+-- `catalogue::packing::keys` meets its contract: what `key_of` gives of each entry is listed, and tells the entry's version.
+use Rattle.std.proofs.Common.{◌≡◌, get_or, rules}
+use Rattle.catalogue.specs.Parts.{entries_alone, entry_key}
+use Rattle.catalogue.proofs.Names.{version_back}
 use Rattle.catalogue.proofs.packing.keys.Goals as goal
 
-pub loop-e-init : goal.loop-e-init
-loop-e-init c = (search rules, search rules, λ k h. absurd (omega arith))
+pub returns-clause-listed : goal.returns-clause-listed
+returns-clause-listed c = record { size = c.packed.ensures.size; each = λ e h. let r = c.packed.ensures.each e h in search rules }
 
-pub loop-e-preserved : goal.loop-e-preserved
-loop-e-preserved c = (
-  search rules,
-  search rules,
-  filled_more _ c.loop-e.packed c.loop-e.e _ (omega arith) c.key_of.ensures c.loop-e.invariant.2,
-)
-
-pub returns : goal.returns
-returns c = record { size = c.loop-e.invariant.1; each = λ e h. c.loop-e.invariant.2 e (omega arith) }
+pub returns-clause-back : goal.returns-clause-back
+returns-clause-back c e h =
+    let L = entries_alone c.args.entries.numbers.now in
+    let r = c.packed.ensures.each e h in
+    let key : get_or c.packed.result e 0 ≡ entry_key L e = search rules in
+    rw key (version_back L c.args.entries.sized e)

@@ -1,16 +1,14 @@
--- `catalogue::refusals::setup_refusal` meets its contract: the rows on the settings, then those on the objectives, then those on the sizes.
-use Rattle.catalogue.proofs.Order.{numbered_before, numbered_after}
+-- `catalogue::refusals::setup_refusal` meets its contract: the last test comes out true after the others came out false.
+use Rattle.catalogue.proofs.Order.{applies, passes}
 use Rattle.catalogue.proofs.refusals.setup_refusal.Goals as goal
 
-pub returns-then-first-ne0 : goal.returns-then-first-ne0
-returns-then-first-ne0 c = numbered_before _ _ c.settings_refusal-first.ensures c.if-first-ne0.true
-
-pub returns-then-second-ne0 : goal.returns-then-second-ne0
-returns-then-second-ne0 c =
-    numbered_after _ _ c.settings_refusal-first.ensures c.if-first-ne0.false
-    (numbered_before _ _ c.objectives_refusal-second.ensures c.if-second-ne0.true)
-
-pub returns : goal.returns
-returns c =
-    numbered_after _ _ c.settings_refusal-first.ensures c.if-first-ne0.false
-    (numbered_after _ _ c.objectives_refusal-second.ensures c.if-second-ne0.false c.sizes_refusal.ensures)
+pub returns-then-weights_overflow : goal.returns-then-weights_overflow
+returns-then-weights_overflow c =
+    passes c.root_missing.ensures c.if-root_missing.false
+    (passes c.mode_unknown.ensures c.if-mode_unknown.false
+    (passes c.cycles_unknown.ensures c.if-cycles_unknown.false
+    (passes c.objectives_misnumbered.ensures c.if-objectives_misnumbered.false
+    (passes c.objective_unknown.ensures c.if-objective_unknown.false
+    (passes c.objective_twice.ensures c.if-objective_twice.false
+    (passes c.buffer_misfits.ensures c.if-buffer_misfits.false
+    (applies (rw c.of.ensures at c.weights_overflow.ensures) c.if-weights_overflow.true)))))))

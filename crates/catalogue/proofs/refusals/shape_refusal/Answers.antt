@@ -1,16 +1,29 @@
--- `catalogue::refusals::shape_refusal` meets its contract: the rows on the entries, then those on the owners, then those on the marks.
-use Rattle.catalogue.proofs.Order.{numbered_before, numbered_after}
+-- `catalogue::refusals::shape_refusal` meets its contract: whichever test of the slot table comes out true, those before it came out false.
+use Rattle.catalogue.proofs.Order.{applies, passes}
 use Rattle.catalogue.proofs.refusals.shape_refusal.Goals as goal
+use Rattle.catalogue.proofs.refusals.shape_refusal.Goals.{then-slots_misshapen-via-then-slots_misshapen as first}
+use Rattle.catalogue.proofs.refusals.shape_refusal.Goals.{then-slots_misshapen-via-else-slots_misshapen+then-owner_missing as second}
+use Rattle.catalogue.proofs.refusals.shape_refusal.Goals.{then-slots_misshapen-via-else-slots_misshapen+else-owner_missing+then-owners_fall as third}
+use Rattle.catalogue.proofs.refusals.shape_refusal.Goals.{then-slots_misshapen-via-else-slots_misshapen+else-owner_missing+else-owners_fall+then-marks_cross as fourth}
+use Rattle.catalogue.proofs.refusals.shape_refusal.Goals.{then-slots_misshapen-via-else-slots_misshapen+else-owner_missing+else-owners_fall+else-marks_cross+then-end_past_text as fifth}
 
-pub returns-then-first-ne0 : goal.returns-then-first-ne0
-returns-then-first-ne0 c = numbered_before _ _ c.entries_refusal-first.ensures c.if-first-ne0.true
-
-pub returns-then-second-ne0 : goal.returns-then-second-ne0
-returns-then-second-ne0 c =
-    numbered_after _ _ c.entries_refusal-first.ensures c.if-first-ne0.false
-    (numbered_before _ _ c.owners_refusal-second.ensures c.if-second-ne0.true)
-
-pub returns : goal.returns
-returns c =
-    numbered_after _ _ c.entries_refusal-first.ensures c.if-first-ne0.false
-    (numbered_after _ _ c.owners_refusal-second.ensures c.if-second-ne0.false c.marks_refusal.ensures)
+pub returns-then-slots_misshapen : goal.returns-then-slots_misshapen
+returns-then-slots_misshapen c =
+    passes c.entries_misshapen.ensures c.if-entries_misshapen.false
+    (passes (rw c.of.ensures at c.entry_twice.ensures) c.if-entry_twice.false
+    (elim c.then-slots_misshapen.branch [
+      | first w ↦ applies c.slots_misshapen.ensures w.if-slots_misshapen.true
+      | second w ↦ passes c.slots_misshapen.ensures w.if-slots_misshapen.false (applies w.owner_missing.ensures w.if-owner_missing.true)
+      | third w ↦
+          passes c.slots_misshapen.ensures w.if-slots_misshapen.false
+          (passes w.owner_missing.ensures w.if-owner_missing.false (applies w.owners_fall.ensures w.if-owners_fall.true))
+      | fourth w ↦
+          passes c.slots_misshapen.ensures w.if-slots_misshapen.false
+          (passes w.owner_missing.ensures w.if-owner_missing.false
+          (passes w.owners_fall.ensures w.if-owners_fall.false (applies w.marks_cross.ensures w.if-marks_cross.true)))
+      | fifth w ↦
+          passes c.slots_misshapen.ensures w.if-slots_misshapen.false
+          (passes w.owner_missing.ensures w.if-owner_missing.false
+          (passes w.owners_fall.ensures w.if-owners_fall.false
+          (passes w.marks_cross.ensures w.if-marks_cross.false (applies w.end_past_text.ensures w.if-end_past_text.true))))
+    ]))

@@ -1,28 +1,20 @@
--- `constraint::bound::signed` meets its contract: each sign was compared with what the text begins with.
-use mathlib.Core.Path.{refl}
-use Rattle.constraint.specs.Reader.{ReadsOpening}
-use Rattle.constraint.proofs.Beginnings.{agreed_word, agreed_less}
-use Rattle.constraint.proofs.Bounded.{opened_none}
+-- `constraint::bound::signed` meets its contract: where no sign was found, none opens a bound.
+use Rattle.std.proofs.Common.{rules, tests}
+use Rattle.std.specs.Prelude.{nat_eq}
+use Rattle.std.specs.List.{starts_with}
+use Rattle.std.proofs.lemmas.Iterator.{YieldsList-from_slice}
+use Rattle.std.proofs.lemmas.Iterator.Consumers.{YieldsList-from_copied}
+use Rattle.std.proofs.lemmas.Iterator.Search.{find_from_yields_List}
+use Rattle.constraint.specs.declared.range.Sign.{Sign}
+use Rattle.constraint.specs.Range.{bound_of}
+use Rattle.constraint.specs.Reader.{opened}
+use Rattle.constraint.proofs.Bounded.{signs, opened_none}
 use Rattle.constraint.proofs.bound.signed.Goals as goal
 
-pub returns-then-agreed-eq3 : goal.returns-then-agreed-eq3
-returns-then-agreed-eq3 c = ReadsOpening.read (agreed_word c.agreed.ensures c.if-agreed-eq3.true) refl
-
-pub returns-then-agreed-eq4 : goal.returns-then-agreed-eq4
-returns-then-agreed-eq4 c = ReadsOpening.read (agreed_word c.agreed-2.ensures c.if-agreed-eq4.true) refl
-
-pub returns-then-agreed-eq4-2 : goal.returns-then-agreed-eq4-2
-returns-then-agreed-eq4-2 c = ReadsOpening.read (agreed_word c.agreed-3.ensures c.if-agreed-eq4-2.true) refl
-
-pub returns-then-agreed-eq3-2 : goal.returns-then-agreed-eq3-2
-returns-then-agreed-eq3-2 c = ReadsOpening.read (agreed_word c.agreed-4.ensures c.if-agreed-eq3-2.true) refl
-
-pub returns : goal.returns
-returns c =
-    ReadsOpening.stopped
-    (opened_none
-    (agreed_less c.agreed.ensures c.if-agreed-eq3.false)
-    (agreed_less c.agreed-2.ensures c.if-agreed-eq4.false)
-    (agreed_less c.agreed-3.ensures c.if-agreed-eq4-2.false)
-    (agreed_less c.agreed-4.ensures c.if-agreed-eq3-2.false))
-    refl
+pub returns-in_err-value : goal.returns-in_err-value
+returns-in_err-value c =
+    let found =
+    find_from_yields_List (λ (s : Sign). starts_with nat_eq c.args.rest.now (opened (bound_of s))) _ _ c.find.result c.find.ensures.ran
+    (YieldsList-from_copied (YieldsList-from_slice signs (cc)))
+    (λ x b q k. search (rules, tests)) in
+    rw c.from_residual.ensures (opened_none (rw c.in_err-value.was at found))

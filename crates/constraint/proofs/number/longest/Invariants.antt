@@ -1,11 +1,6 @@
--- `constraint::number::longest` meets its contract.
-use Prim.Native.Nat.{◌-◌}
-use lib.ListN.{length}
+-- The loop's invariant: the bytes so far write the number.
 use Rattle.constraint.proofs.Numbers.{Begun}
 use Rattle.constraint.proofs.number.longest.Given as goal
 
 abbrev pub invariant-loop-used : goal.invariant-loop-used
-invariant-loop-used l = Begun l.rest l.value l.used
-
-abbrev pub decreases-loop-used : goal.decreases-loop-used
-decreases-loop-used l = length l.rest - l.used
+invariant-loop-used l = Begun l.rest l.number l.used-counter

@@ -1,33 +1,17 @@
--- `constraint::word::agreed` meets its contract. The loop's invariant: the two agree in the first i bytes. The measure is what is left of the word.
-use mathlib.Core.Path.{refl}
-use native.Mathlib.Omega.{arith}
-use Rattle.constraint.proofs.Texts.{take_more}
+-- `constraint::word::agreed` meets its contract: it counts the pairs of bytes that are alike before the first that are not.
+use Rattle.std.proofs.Common.{rules, tests}
+use Rattle.std.proofs.lemmas.Iterator.{YieldsList-from_slice, YieldsList-from_zip}
+use Rattle.std.proofs.lemmas.Iterator.Consumers.{count_from_yields_List}
+use Rattle.std.proofs.lemmas.Iterator.Search.{YieldsList-from_take_while}
+use Rattle.std.proofs.lemmas.List.Folds.{length-prefix_len}
+use Rattle.constraint.proofs.Words.{alike, agrees_zip}
 use Rattle.constraint.proofs.word.agreed.Goals as goal
 
-pub loop-i-init : goal.loop-i-init
-loop-i-init c = (omega arith, omega arith, refl)
-
-pub returns-then-i-rest : goal.returns-then-i-rest
-returns-then-i-rest c = record { within_text = c.loop-i.invariant.0; within_word = c.loop-i.invariant.1; same = c.loop-i.invariant.2; stops = λ l k. absurd (omega arith) }
-
-pub bounds-rest-i : goal.bounds-rest-i
-bounds-rest-i c = omega arith
-
-pub bounds-word-i : goal.bounds-word-i
-bounds-word-i c = omega arith
-
-pub returns-then-rest-i : goal.returns-then-rest-i
-returns-then-rest-i c = record { within_text = c.loop-i.invariant.0; within_word = c.loop-i.invariant.1; same = c.loop-i.invariant.2; stops = λ l k. c.if-rest-i.true }
-
-pub overflow_add-i : goal.overflow_add-i
-overflow_add-i c = omega arith
-
-pub loop-i-smaller : goal.loop-i-smaller
-loop-i-smaller c = omega arith
-
-pub loop-i-preserved : goal.loop-i-preserved
-loop-i-preserved c =
-    (omega arith, omega arith, take_more c.args.rest.now c.args.word.now _ (omega arith) (omega arith) c.loop-i.invariant.2 c.if-rest-i.false)
-
 pub returns : goal.returns
-returns c = record { within_text = c.loop-i.invariant.0; within_word = c.loop-i.invariant.1; same = c.loop-i.invariant.2; stops = λ l k. absurd (omega arith) }
+returns c =
+    let size =
+    count_from_yields_List c.take_while.result c.count.result c.count.ensures.ran
+    (YieldsList-from_take_while _ alike
+    (YieldsList-from_zip (YieldsList-from_slice c.args.rest.now (cc)) (YieldsList-from_slice c.args.word.now (cc)))
+    (cc) (cc) (λ x b q k. search (rules, tests))) in
+    rw (size, length-prefix_len) (agrees_zip c.args.rest.now c.args.word.now)

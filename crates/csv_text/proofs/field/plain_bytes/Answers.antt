@@ -1,27 +1,13 @@
--- `csv_text::field::plain_bytes` meets its contract. The loop's invariant: every byte passed is of the kind. The measure is what is left of the text.
-use native.Mathlib.Omega.{arith}
+-- `csv_text::field::plain_bytes` meets its contract: the first byte of another kind ends the run.
+use Rattle.std.proofs.Common.{rules, tests}
+use Rattle.std.proofs.lemmas.Iterator.{IsFirst-from_position, YieldsList-from_slice}
 use Rattle.csv_text.specs.Layout.{FieldByte}
-use Rattle.csv_text.proofs.Words.{fails_if, holds_if}
-use Rattle.csv_text.proofs.Fields.{going_none, going_on, run_here, run_all}
+use Rattle.csv_text.proofs.Fields.{run_to}
 use Rattle.csv_text.proofs.field.plain_bytes.Goals as goal
 
-pub loop-used-init : goal.loop-used-init
-loop-used-init c = going_none FieldByte _
-
-pub bounds-rest-used : goal.bounds-rest-used
-bounds-rest-used c = omega arith
-
-pub returns-then-not-in_field : goal.returns-then-not-in_field
-returns-then-not-in_field c = run_here c.loop-used.invariant (fails_if c.in_field.ensures c.if-not-in_field.true)
-
-pub overflow_add-used : goal.overflow_add-used
-overflow_add-used c = omega arith
-
-pub loop-used-smaller : goal.loop-used-smaller
-loop-used-smaller c = omega arith
-
-pub loop-used-preserved : goal.loop-used-preserved
-loop-used-preserved c = going_on c.loop-used.invariant (omega arith) (holds_if c.in_field.ensures c.if-not-in_field.false)
-
 pub returns : goal.returns
-returns c = run_all c.loop-used.invariant c.loop-used-test.false
+returns c =
+    rw c.unwrap_or.ensures
+    (run_to c.position.result
+    (IsFirst-from_position _ _ _ (λ b. ¬ FieldByte b) FieldByte c.position.ensures.ran (YieldsList-from_slice c.args.rest.now cc)
+    (λ x q k. search (rules, tests)) (λ x q k. search (rules, tests))))

@@ -9,7 +9,7 @@ use Rattle.csv_text.proofs.fill.tables.Given as goal
 
 abbrev pub invariant-loop-here : goal.invariant-loop-here
 invariant-loop-here l =
-    (lines : List Line) × (done : List Line) × Filling l.text l.initial.entries l.initial.slots lines done l.here l.starts l.ends l.entries l.slots
+    (lines : List Line) × (done : List Line) × Filling l.text l.initial.entries l.initial.slots lines done l.here l.names l.entries l.slots
     × (length l.entries ≡ length l.initial.entries) × (length l.slots ≡ length l.initial.slots)
 
 abbrev pub decreases-loop-here : goal.decreases-loop-here

@@ -1,53 +1,31 @@
 -- `csv_text::line::entry` meets its contract: each field stands where the one before it ends, or the text begins with no entry's line.
-use native.Mathlib.Omega.{arith}
+use Rattle.basis.specs.Bytes.{bytes}
+use Rattle.basis.proofs.Answers.{holds, fails}
 use Rattle.constraint.proofs.Texts.{part_from}
-use Rattle.csv_text.proofs.Words.{holds_if, fails_if}
-use Rattle.csv_text.proofs.Fields.{has}
-use Rattle.csv_text.proofs.Lines.{entry_no_name, entry_no_version, entry_no_weight, entry_no_comma, entry_no_end, entry_there, version_within, weight_within, comma_within}
+use Rattle.csv_text.proofs.Words.{started, not_started}
+use Rattle.csv_text.proofs.Lines.{entry_no_version, entry_no_weight, entry_no_comma, entry_no_end, entry_there}
 use Rattle.csv_text.proofs.line.entry.Goals as goal
 
-pub returns-then-name-eq0 : goal.returns-then-name-eq0
-returns-then-name-eq0 c = entry_no_name c.name-name.ensures c.if-name-eq0.true
+pub returns-in_err-release : goal.returns-in_err-release
+returns-in_err-release c = rw c.from_residual-in_err-release.ensures (entry_no_version c.in_ok-name.ensures (rw part_from at c.in_err-release.ensures))
 
-pub slice_bounds-version-count : goal.slice_bounds-version-count
-slice_bounds-version-count c = omega (arith, (has c.name-name.ensures c.if-name-eq0.false).within)
+pub returns-in_err-weight : goal.returns-in_err-weight
+returns-in_err-weight c =
+    rw c.from_residual-in_err-weight.ensures
+    (entry_no_weight c.in_ok-name.ensures (rw part_from at c.in_ok-release.ensures) (rw part_from at c.in_err-weight.ensures))
 
-pub returns-then-release-eq0 : goal.returns-then-release-eq0
-returns-then-release-eq0 c =
-    entry_no_version c.name-name.ensures c.if-name-eq0.false (rw part_from at c.version-release.ensures) c.if-release-eq0.true
-
-pub slice_bounds-number-count : goal.slice_bounds-number-count
-slice_bounds-number-count c =
-    version_within c.name-name.ensures c.if-name-eq0.false (rw part_from at c.version-release.ensures) c.if-release-eq0.false
-
-pub returns-then-weight-eq0 : goal.returns-then-weight-eq0
-returns-then-weight-eq0 c =
-    entry_no_weight c.name-name.ensures c.if-name-eq0.false (rw part_from at c.version-release.ensures) c.if-release-eq0.false
-    (rw part_from at c.number-weight.ensures) c.if-weight-eq0.true
-
-pub slice_bounds-begins-count : goal.slice_bounds-begins-count
-slice_bounds-begins-count c =
-    weight_within c.name-name.ensures c.if-name-eq0.false (rw part_from at c.version-release.ensures) c.if-release-eq0.false
-    (rw part_from at c.number-weight.ensures) c.if-weight-eq0.false
-
-pub returns-then-not-begins : goal.returns-then-not-begins
-returns-then-not-begins c =
-    entry_no_comma c.name-name.ensures c.if-name-eq0.false (rw part_from at c.version-release.ensures) c.if-release-eq0.false
-    (rw part_from at c.number-weight.ensures) c.if-weight-eq0.false (rw part_from at (fails_if c.begins.ensures c.if-not-begins.true))
-
-pub slice_bounds-at_end-count : goal.slice_bounds-at_end-count
-slice_bounds-at_end-count c =
-    comma_within c.name-name.ensures c.if-name-eq0.false (rw part_from at c.version-release.ensures) c.if-release-eq0.false
-    (rw part_from at c.number-weight.ensures) c.if-weight-eq0.false (rw part_from at (holds_if c.begins.ensures c.if-not-begins.false))
+pub returns-then-not-starts_with : goal.returns-then-not-starts_with
+returns-then-not-starts_with c =
+    entry_no_comma c.in_ok-name.ensures (rw part_from at c.in_ok-release.ensures) (rw part_from at c.in_ok-weight.ensures)
+    (not_started (bytes ",") (rw part_from at c.starts_with.ensures.value) c.if-not-starts_with.true)
 
 pub returns-then-not-at_end : goal.returns-then-not-at_end
 returns-then-not-at_end c =
-    entry_no_end c.name-name.ensures c.if-name-eq0.false (rw part_from at c.version-release.ensures) c.if-release-eq0.false
-    (rw part_from at c.number-weight.ensures) c.if-weight-eq0.false (rw part_from at (holds_if c.begins.ensures c.if-not-begins.false))
-    (rw part_from at (fails_if c.at_end.ensures c.if-not-at_end.true))
+    entry_no_end c.in_ok-name.ensures (rw part_from at c.in_ok-release.ensures) (rw part_from at c.in_ok-weight.ensures)
+    (rw part_from at (fails c.at_end.ensures c.if-not-at_end.true))
 
 pub returns : goal.returns
 returns c =
-    entry_there c.name-name.ensures c.if-name-eq0.false (rw part_from at c.version-release.ensures) c.if-release-eq0.false
-    (rw part_from at c.number-weight.ensures) c.if-weight-eq0.false (rw part_from at (holds_if c.begins.ensures c.if-not-begins.false))
-    (rw part_from at (holds_if c.at_end.ensures c.if-not-at_end.false))
+    entry_there c.in_ok-name.ensures (rw part_from at c.in_ok-release.ensures) (rw part_from at c.in_ok-weight.ensures)
+    (started (bytes ",") (rw part_from at c.starts_with.ensures.value) c.if-not-starts_with.false)
+    (rw part_from at (holds c.at_end.ensures c.if-not-at_end.false))

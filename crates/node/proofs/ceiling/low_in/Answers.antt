@@ -2,11 +2,7 @@
 use native.Mathlib.Omega.{arith}
 use Rattle.node.proofs.Few.{lowest_fits}
 use Rattle.node.proofs.Lower.{lowest_low}
-use Rattle.node.proofs.Told.{said_yes}
 use Rattle.node.proofs.ceiling.low_in.Goals as goal
-
-pub returns-then-has : goal.returns-then-has
-returns-then-has c = record { due = λ n e m. absurd (n (said_yes c.has.ensures c.if-has.true)); most = omega arith }
 
 pub overflow_cast-result : goal.overflow_cast-result
 overflow_cast-result c = omega (arith, lowest_fits (omega arith) c.lowest.ensures)

@@ -1,43 +1,11 @@
--- `node::forced_arrows::arrows` meets its contract. The measure is the number of live entries left.
-use Prim.Native.Nat.{◌+◌}
-use native.Mathlib.Omega.{arith}
-use Rattle.plan.proofs.Subsets.{lowest_below, left_count}
+-- `node::forced_arrows::arrows` meets its contract. The entries passed have given their arrows.
+use borrow.Author.Rules.{rules}
+use Prim.Native.Nat.{◌<◌}
 use Rattle.node.proofs.Arrows.{sources_none, sources_more}
 use Rattle.node.proofs.forced_arrows.arrows.Goals as goal
 
-pub loop-rest-init : goal.loop-rest-init
-loop-rest-init c = (omega arith, sources_none)
+pub loop-e-init : goal.loop-e-init
+loop-e-init c = sources_none
 
-pub offset_bounds-first-at : goal.offset_bounds-first-at
-offset_bounds-first-at c = omega arith
-
-pub bounds-first-at : goal.bounds-first-at
-bounds-first-at c =
-    omega (arith, lowest_below c.loop-rest.invariant.0 (c.lowest-e.ensures.some c.loop-rest-test.true))
-
-pub overflow_add-at : goal.overflow_add-at
-overflow_add-at c = omega arith
-
-pub offset_bounds-first-at-in-loop-rest : goal.offset_bounds-first-at-in-loop-rest
-offset_bounds-first-at-in-loop-rest c = omega arith
-
-pub bounds-first-at-in-loop-rest : goal.bounds-first-at-in-loop-rest
-bounds-first-at-in-loop-rest c =
-    omega (arith, lowest_below c.loop-rest.invariant.0 (c.lowest-e.ensures.some c.loop-rest-test.true))
-
-pub point_all-requires : goal.point_all-requires
-point_all-requires c =
-    let below = lowest_below c.loop-rest.invariant.0 (c.lowest-e.ensures.some c.loop-rest-test.true) in
-    (c.loop-rest.invariant.1.size, c.requires (c.lowest-e.result + 1) (omega (arith, below)))
-
-pub loop-rest-smaller : goal.loop-rest-smaller
-loop-rest-smaller c =
-    left_count c.loop-rest.invariant.0 (c.lowest-e.ensures.some c.loop-rest-test.true) c.without-rest.ensures
-
-pub loop-rest-preserved : goal.loop-rest-preserved
-loop-rest-preserved c =
-    let below = lowest_below c.loop-rest.invariant.0 (c.lowest-e.ensures.some c.loop-rest-test.true) in
-    (omega arith, sources_more below c.loop-rest.invariant.1 c.point_all.ensures)
-
-pub returns : goal.returns
-returns c = c.loop-rest.invariant.1
+pub loop-e-preserved : goal.loop-e-preserved
+loop-e-preserved c = let below : c.in-Some.e < 64 = search rules in sources_more below c.loop-e.invariant c.point_all.ensures

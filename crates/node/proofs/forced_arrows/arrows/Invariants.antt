@@ -1,11 +1,6 @@
--- `node::forced_arrows::arrows` meets its contract. The measure is the number of live entries left.
-use Prim.Native.Nat.{◌^◌, ◌<◌}
-use Rattle.bitset.specs.Bits.{count}
+-- `node::forced_arrows::arrows` meets its contract. The entries passed have given their arrows.
 use Rattle.node.specs.Arrows.{Sources}
 use Rattle.node.proofs.forced_arrows.arrows.Given as goal
 
-abbrev pub invariant-loop-rest : goal.invariant-loop-rest
-invariant-loop-rest l = (l.rest < 2 ^ 64) × Sources l.first l.choices l.rows
-
-abbrev pub decreases-loop-rest : goal.decreases-loop-rest
-decreases-loop-rest l = count l.rest
+abbrev pub invariant-loop-e : goal.invariant-loop-e
+invariant-loop-e l = Sources l.spans.first l.choices l.rows

@@ -1,10 +1,8 @@
--- `node::forced_arrows::take_back` meets its contract. The measure is the number of slots left.
-use Prim.Native.Nat.{◌-◌, ◌≤◌}
+-- `node::forced_arrows::take_back` meets its contract. The slots before `s` have lost what is taken back.
+use Prim.Native.Nat.{◌+◌}
+use lib.ListN.{get_or}
 use Rattle.node.specs.Arrows.{TakenBack}
 use Rattle.node.proofs.forced_arrows.take_back.Given as goal
 
 abbrev pub invariant-loop-s : goal.invariant-loop-s
-invariant-loop-s l = (l.start ≤ l.s) × TakenBack l.start l.end l.back l.initial.choices l.choices
-
-abbrev pub decreases-loop-s : goal.decreases-loop-s
-decreases-loop-s l = l.end - l.s
+invariant-loop-s l = TakenBack (get_or l.spans.first l.owner 0) (get_or l.spans.first (l.owner + 1) 0) l.back l.initial.choices l.choices

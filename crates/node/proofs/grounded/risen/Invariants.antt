@@ -4,7 +4,7 @@ use Rattle.node.proofs.Grounding.{Rising}
 use Rattle.node.proofs.grounded.risen.Given as goal
 
 abbrev pub invariant-loop-rest : goal.invariant-loop-rest
-invariant-loop-rest l = Rising l.first l.choices l.ban l.footing l.found l.rest
+invariant-loop-rest l = Rising l.spans.first l.choices l.ban l.footing l.found l.rest
 
 abbrev pub decreases-loop-rest : goal.decreases-loop-rest
 decreases-loop-rest l = count l.rest

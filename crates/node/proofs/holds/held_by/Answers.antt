@@ -2,12 +2,9 @@
 use mathlib.Core.Path.{refl}
 use native.Mathlib.Omega.{arith}
 use Rattle.bitset.proofs.Sets.{member_below}
-use Rattle.node.specs.Members.{nothing, one, several}
+use Rattle.node.specs.Members.{one, several}
 use Rattle.node.proofs.Few.{only_member, second_member}
 use Rattle.node.proofs.holds.held_by.Goals as goal
-
-pub returns-then-set-eq0 : goal.returns-then-set-eq0
-returns-then-set-eq0 c = nothing c.if-set-eq0.true refl
 
 pub returns-then-without-eq0 : goal.returns-then-without-eq0
 returns-then-without-eq0 c =

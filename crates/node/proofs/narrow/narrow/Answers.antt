@@ -1,44 +1,17 @@
 -- `node::narrow::narrow` meets its contract: the rounds so far have dropped nothing that a plan that is sought has.
 use mathlib.Core.Path.{refl}
-use native.Mathlib.Omega.{arith}
-use Rattle.node.proofs.Narrowing.{rounded_on, rounded_from, narrowed_none}
+use Rattle.pacsolve.specs.Listing.{from_the_start}
+use Rattle.node.proofs.Narrowing.{narrowed_then, ready_more}
 use Rattle.node.proofs.narrow.narrow.Goals as goal
 
-pub loop-round-init : goal.loop-round-init
-loop-round-init c given ready = narrowed_none refl refl refl
+pub once-requires-clause-ready : goal.once-requires-clause-ready
+once-requires-clause-ready c = ready_more c.requires.ready (((c.loop.invariant from_the_start).fewer _ refl).more)
 
-pub once-next-requires : goal.once-next-requires
-once-next-requires c =
-    record {
-      bounded = λ e h. omega (arith, c.requires.facts.spans.within e h, c.requires.ready.slots);
-      few_slots = c.requires.ready.slots;
-      one_each = c.requires.ready.plan_sized;
-      rows = c.requires.facts.alikes.sized;
-      moderate = c.requires.facts.moderate;
-    }
+pub returns-in_err-next : goal.returns-in_err-next
+returns-in_err-next c q = rw c.from_residual.ensures (narrowed_then (c.loop.invariant q) (c.in_err-next.ensures q))
 
-pub returns-then-not-alive : goal.returns-then-not-alive
-returns-then-not-alive c =
-    rounded_from refl refl refl c.requires.ready
-    (rounded_on c.loop-round.invariant
-    (λ given ready. c.once-next.ensures c.args.entries.now c.args.objectives.now c.args.fits.now c.args.past.now given ready c.requires.facts))
+pub returns-then-eq : goal.returns-then-eq
+returns-then-eq c q = narrowed_then (c.loop.invariant q) (c.in_ok-next.ensures q)
 
-pub returns-then-same : goal.returns-then-same
-returns-then-same c =
-    rounded_from refl refl refl c.requires.ready
-    (rounded_on c.loop-round.invariant
-    (λ given ready. c.once-next.ensures c.args.entries.now c.args.objectives.now c.args.fits.now c.args.past.now given ready c.requires.facts))
-
-pub overflow_add-round : goal.overflow_add-round
-overflow_add-round c = omega arith
-
-pub loop-round-smaller : goal.loop-round-smaller
-loop-round-smaller c = omega arith
-
-pub loop-round-preserved : goal.loop-round-preserved
-loop-round-preserved c =
-    rounded_on c.loop-round.invariant
-    (λ given ready. c.once-next.ensures c.args.entries.now c.args.objectives.now c.args.fits.now c.args.past.now given ready c.requires.facts)
-
-pub returns : goal.returns
-returns c = rounded_from refl refl refl c.requires.ready c.loop-round.invariant
+pub loop-preserved : goal.loop-preserved
+loop-preserved c q = narrowed_then (c.loop.invariant q) (c.in_ok-next.ensures q)

@@ -1,25 +1,30 @@
 -- `node::narrow::once` meets its contract.
+use mathlib.Core.Path.{refl}
 use Rattle.node.proofs.Narrowing.{settled_then, narrowed_by, narrowed_then, ready_more}
 use Rattle.node.proofs.narrow.once.Goals as goal
 
-pub returns-then-not-sorts : goal.returns-then-not-sorts
-returns-then-not-sorts c entries objectives fits past given ready facts = narrowed_by (c.sorted_out-sorted.ensures entries _ objectives fits _ facts.spans facts.clashes)
+pub returns-in_err-sorted : goal.returns-in_err-sorted
+returns-in_err-sorted c q = rw c.from_residual.ensures (narrowed_by (c.in_err-sorted.ensures c.args.problem.now c.requires.facts))
 
-pub returns-then-not-same : goal.returns-then-not-same
-returns-then-not-same c entries objectives fits past given ready facts = narrowed_by (c.sorted_out-sorted.ensures entries _ objectives fits _ facts.spans facts.clashes)
+pub returns-then-ne : goal.returns-then-ne
+returns-then-ne c q = narrowed_by (c.in_ok-sorted.ensures c.args.problem.now c.requires.facts)
 
-pub returns-then-not-walks : goal.returns-then-not-walks
-returns-then-not-walks c entries objectives fits past given ready facts =
-    let one = c.sorted_out-sorted.ensures entries _ objectives fits _ facts.spans facts.clashes in
-    narrowed_by (settled_then one (c.walked_through-walked.ensures entries _ objectives fits facts.spans (one.fewer.more _ ready.rooted)))
+pub walked_through-requires-clause-rooted : goal.walked_through-requires-clause-rooted
+walked_through-requires-clause-rooted c =
+    ((c.in_ok-sorted.ensures c.args.problem.now c.requires.facts).fewer _ refl).more _ c.requires.ready.rooted
 
-pub returns-then-not-same-2 : goal.returns-then-not-same-2
-returns-then-not-same-2 c entries objectives fits past given ready facts =
-    let one = c.sorted_out-sorted.ensures entries _ objectives fits _ facts.spans facts.clashes in
-    narrowed_by (settled_then one (c.walked_through-walked.ensures entries _ objectives fits facts.spans (one.fewer.more _ ready.rooted)))
+pub returns-in_err-walked : goal.returns-in_err-walked
+returns-in_err-walked c q =
+    rw c.from_residual-in_err-walked.ensures (narrowed_by (settled_then (c.in_ok-sorted.ensures c.args.problem.now c.requires.facts) c.in_err-walked.ensures))
+
+pub returns-then-ne-2 : goal.returns-then-ne-2
+returns-then-ne-2 c q = narrowed_by (settled_then (c.in_ok-sorted.ensures c.args.problem.now c.requires.facts) c.in_ok-walked.ensures)
+
+pub afford-requires-clause-ready : goal.afford-requires-clause-ready
+afford-requires-clause-ready c =
+    let both = settled_then (c.in_ok-sorted.ensures c.args.problem.now c.requires.facts) c.in_ok-walked.ensures in
+    ready_more c.requires.ready ((both.fewer _ refl).more)
 
 pub returns : goal.returns
-returns c entries objectives fits past given ready facts =
-    let one = c.sorted_out-sorted.ensures entries _ objectives fits _ facts.spans facts.clashes in
-    let both = settled_then one (c.walked_through-walked.ensures entries _ objectives fits facts.spans (one.fewer.more _ ready.rooted)) in
-    narrowed_then (narrowed_by both) (c.afford.ensures entries objectives fits _ past _ given (ready_more ready both.fewer.more) facts)
+returns c q =
+    narrowed_then (narrowed_by (settled_then (c.in_ok-sorted.ensures c.args.problem.now c.requires.facts) c.in_ok-walked.ensures)) (c.afford.ensures q)

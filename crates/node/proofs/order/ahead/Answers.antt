@@ -1,18 +1,17 @@
--- `node::order::ahead` meets its contract: the lower cost is ahead, and where neither cost is lower the tables decide.
+-- `node::order::ahead` meets its contract.
+use borrow.Author.Rules.{rules}
+use mathlib.Core.Path.{◌≡◌}
 use mathlib.Core.Logic.{inl}
-use Rattle.node.proofs.Preceding.{not_ahead, ahead_by_tables}
-use Rattle.node.proofs.Told.{told_yes, told_no, said_yes, said_no}
+use Rattle.basis.proofs.Answers.{answer_yes, answer_no, holds, fails}
+use Rattle.node.proofs.Preceding.{tied_ahead, not_ahead}
 use Rattle.node.proofs.order.ahead.Goals as goal
 
 pub returns-then-cheaper : goal.returns-then-cheaper
-returns-then-cheaper c = told_yes (inl (said_yes c.cheaper.ensures c.if-cheaper.true))
+returns-then-cheaper c = rw c.if-cheaper.true (answer_yes (inl (holds c.cheaper.ensures c.if-cheaper.true)))
 
-pub returns-then-cheaper-2 : goal.returns-then-cheaper-2
-returns-then-cheaper-2 c =
-    told_no
-    (not_ahead _ _ _ _ (said_no c.cheaper.ensures c.if-cheaper.false) (said_yes c.cheaper-2.ensures c.if-cheaper-2.true))
+pub returns-then-eq : goal.returns-then-eq
+returns-then-eq c = let same : c.args.a ≡ c.args.b = search rules in tied_ahead same c.earlier.ensures
 
-pub returns : goal.returns
-returns c =
-    ahead_by_tables _ _ _ _ (said_no c.cheaper.ensures c.if-cheaper.false)
-    (said_no c.cheaper-2.ensures c.if-cheaper-2.false) c.earlier.ensures
+pub returns-else-eq : goal.returns-else-eq
+returns-else-eq c =
+    let other : ¬ (c.args.a ≡ c.args.b) = search rules in rw c.if-eq.false (answer_no (not_ahead (fails c.cheaper.ensures c.if-cheaper.false) other))

@@ -1,44 +1,23 @@
--- `node::order::earlier` meets its contract: the tables are alike up to `i`, so that the first difference, or the end of either, decides.
-use borrow.Author.Rules.{rules}
-use mathlib.Core.Logic.{inl, inr}
-use native.Mathlib.Omega.{arith}
-use borrow.Author.Count.{below_none, below_more}
-use Rattle.node.proofs.Compared.{earlier_at, not_earlier_at, not_earlier_end}
-use Rattle.node.proofs.Told.{told_yes, told_no}
+-- `node::order::earlier` meets its contract: what is left of the tables decides.
+use mathlib.Core.Logic.{inl, inr, ⊎_elim}
+use Rattle.basis.proofs.Answers.{answer_no}
+use Rattle.basis.proofs.Decide.{decides_by, decides_lt}
+use Rattle.node.proofs.Compared.{same_first, other_first, ended_first}
 use Rattle.node.proofs.order.earlier.Goals as goal
 
-pub loop-i-init : goal.loop-i-init
-loop-i-init c = (search rules, below_none _)
+pub returns-then-x-y : goal.returns-then-x-y
+returns-then-x-y c =
+    let heads = c.in-Some.ensures.steps in
+    let decide = other_first c.if-x-y.true in
+    decides_by (λ l. c.loop-x.invariant.0 (rw (heads.0, heads.1) (decide.0 l))) (λ e. decide.1 (rw (heads.0, heads.1) at (c.loop-x.invariant.1 e)))
+    (decides_lt _ _)
 
-pub returns-then-b-i : goal.returns-then-b-i
-returns-then-b-i c = told_no (not_earlier_end _ _ _ c.loop-i.invariant.1 (inr (omega arith)))
-
-pub bounds-a-i : goal.bounds-a-i
-bounds-a-i c = omega arith
-
-pub bounds-b-i : goal.bounds-b-i
-bounds-b-i c = omega arith
-
-pub returns-then-a-i : goal.returns-then-a-i
-returns-then-a-i c = told_yes (earlier_at _ _ _ (omega arith) (omega arith) c.loop-i.invariant.1 c.if-a-i.true)
-
-pub bounds-b-i-in-loop-i : goal.bounds-b-i-in-loop-i
-bounds-b-i-in-loop-i c = omega arith
-
-pub bounds-a-i-in-loop-i : goal.bounds-a-i-in-loop-i
-bounds-a-i-in-loop-i c = omega arith
-
-pub returns-then-b-i-2 : goal.returns-then-b-i-2
-returns-then-b-i-2 c = told_no (not_earlier_at _ _ _ c.loop-i.invariant.1 c.if-b-i-2.true)
-
-pub overflow_add-i : goal.overflow_add-i
-overflow_add-i c = omega arith
-
-pub loop-i-smaller : goal.loop-i-smaller
-loop-i-smaller c = omega arith
-
-pub loop-i-preserved : goal.loop-i-preserved
-loop-i-preserved c = (search rules, below_more _ _ c.loop-i.invariant.1 (omega arith))
+pub loop-x-preserved : goal.loop-x-preserved
+loop-x-preserved c =
+    let heads = c.in-Some.ensures.steps in
+    let on = same_first c.if-x-y.false in
+    (λ e. c.loop-x.invariant.0 (rw (heads.0, heads.1) (on.0 e)), λ e. on.1 (rw (heads.0, heads.1) at (c.loop-x.invariant.1 e)))
 
 pub returns : goal.returns
-returns c = told_no (not_earlier_end _ _ _ c.loop-i.invariant.1 (inl (omega arith)))
+returns c =
+    answer_no (λ e. ended_first _ _ (⊎_elim (λ x. inl x.1.0) (λ x. inr x.1.0) c.in-None.ensures.steps) (c.loop-x.invariant.1 e))

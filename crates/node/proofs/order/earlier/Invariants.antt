@@ -1,11 +1,7 @@
--- `node::order::earlier` meets its contract: the tables are alike up to `i`, so that the first difference, or the end of either, decides.
-use Prim.Native.Nat.{◌≤◌, ◌-◌}
-use lib.ListN.{length}
-use Rattle.node.proofs.Compared.{Alike}
+-- `node::order::earlier` meets its contract: what is left of the tables decides.
+use mathlib.Core.Logic.{◌↔◌}
+use Rattle.pacsolve.specs.Order.{Earlier}
 use Rattle.node.proofs.order.earlier.Given as goal
 
-abbrev pub invariant-loop-i : goal.invariant-loop-i
-invariant-loop-i l = (l.i ≤ length l.a) × Alike l.a l.b l.i
-
-abbrev pub decreases-loop-i : goal.decreases-loop-i
-decreases-loop-i l = length l.a - l.i
+abbrev pub invariant-loop-x : goal.invariant-loop-x
+invariant-loop-x l = Earlier l.x-iterator.a.rest.now l.x-iterator.b.rest.now ↔ Earlier l.a l.b

@@ -6,7 +6,7 @@ use Rattle.node.proofs.Reaching.{Grown}
 use Rattle.node.proofs.within_reach.out_of_reach.Given as goal
 
 abbrev pub invariant-loop-reach : goal.invariant-loop-reach
-invariant-loop-reach l = Grown l.first l.choices l.must l.reach l.passed
+invariant-loop-reach l = Grown l.spans.first l.choices l.must l.reach l.passed
 
 abbrev pub decreases-loop-reach : goal.decreases-loop-reach
 decreases-loop-reach l = 64 - count l.passed

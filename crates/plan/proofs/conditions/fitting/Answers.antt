@@ -1,25 +1,21 @@
--- `plan::conditions::fitting` meets its contract. The loop's invariant: every slot passed fits. The measure is the number of slots left.
-use native.Mathlib.Nat.{not-suc-le-zero}
+-- `plan::conditions::fitting` meets its contract: every slot is tested.
+use Prim.Native.Nat.{◌/◌}
+use mathlib.Core.Path.{refl}
 use native.Mathlib.Omega.{arith}
-use borrow.Author.Count.{below_more}
-use Rattle.basis.proofs.Answers.{fails, holds, answer_yes, answer_no}
+use lib.ListN.{length}
+use Rattle.std.proofs.Common.{rules, tests}
+use Rattle.std.proofs.lemmas.Iterator.{cases_from_all, YieldsList-from_range}
+use Rattle.pacsolve.specs.Plan.{plan_of}
+use Rattle.plan.specs.Posing.{problem_by}
+use Rattle.plan.specs.Slots.{FittingAt}
+use Rattle.plan.proofs.Every.{decides_below}
 use Rattle.plan.proofs.conditions.fitting.Goals as goal
 
-pub loop-s-init : goal.loop-s-init
-loop-s-init c k h = absurd (not-suc-le-zero h)
-
-pub returns-then-not-fitting_at : goal.returns-then-not-fitting_at
-returns-then-not-fitting_at c objectives settings =
-    answer_no (λ f. fails c.fitting_at.ensures c.if-not-fitting_at.true (f c.loop-s.s c.loop-s-test.true))
-
-pub overflow_add-s : goal.overflow_add-s
-overflow_add-s c = omega arith
-
-pub loop-s-smaller : goal.loop-s-smaller
-loop-s-smaller c = omega arith
-
-pub loop-s-preserved : goal.loop-s-preserved
-loop-s-preserved c = below_more _ _ c.loop-s.invariant (holds c.fitting_at.ensures c.if-not-fitting_at.false)
-
 pub returns : goal.returns
-returns c objectives settings = answer_yes (λ s h. c.loop-s.invariant s (omega arith))
+returns c =
+    let p = problem_by c.args.problem.now in
+    let P = plan_of c.args.plan.now in
+    let n = length c.args.problem.now.slots.now / 4 in
+    decides_below _ n _ _ (λ s differ. differ)
+    (cases_from_all _ _ _ (FittingAt p P) (λ s. ¬ FittingAt p P s) c.all.ensures.ran (YieldsList-from_range 0 n n refl (omega arith))
+    (λ x q k. search (rules, tests)) (λ x q k. search (rules, tests)))

@@ -1,28 +1,23 @@
--- `plan::conditions::named` meets its contract. The loop's invariant: every slot passed is named. The measure is the number of slots left.
-use native.Mathlib.Nat.{not-suc-le-zero}
+-- `plan::conditions::named` meets its contract: every slot is tested.
+use Prim.Native.Nat.{◌/◌}
+use mathlib.Core.Path.{refl}
 use native.Mathlib.Omega.{arith}
-use borrow.Author.Count.{below_more}
-use Rattle.basis.proofs.Answers.{fails, holds, answer_yes, answer_no}
+use lib.ListN.{length}
+use Rattle.std.proofs.Common.{rules, tests}
+use Rattle.std.proofs.lemmas.Iterator.{cases_from_all, YieldsList-from_range}
+use Rattle.pacsolve.specs.Plan.{plan_of}
+use Rattle.plan.specs.Posing.{problem_by}
+use Rattle.plan.specs.Slots.{NamedAt}
+use Rattle.plan.proofs.Every.{decides_below}
+use Rattle.plan.proofs.SlotTests.{named_by_slots}
 use Rattle.plan.proofs.conditions.named.Goals as goal
 
-pub loop-s-init : goal.loop-s-init
-loop-s-init c k h = absurd (not-suc-le-zero h)
-
-pub returns-then-not-named_at : goal.returns-then-not-named_at
-returns-then-not-named_at c entries objectives fits settings =
-    answer_no (λ n.
-    fails c.named_at.ensures c.if-not-named_at.true
-    (record { filled = n.filled c.loop-s.s c.loop-s-test.true; empty = n.empty c.loop-s.s c.loop-s-test.true }))
-
-pub overflow_add-s : goal.overflow_add-s
-overflow_add-s c = omega arith
-
-pub loop-s-smaller : goal.loop-s-smaller
-loop-s-smaller c = omega arith
-
-pub loop-s-preserved : goal.loop-s-preserved
-loop-s-preserved c = below_more _ _ c.loop-s.invariant (holds c.named_at.ensures c.if-not-named_at.false)
-
 pub returns : goal.returns
-returns c entries objectives fits settings =
-    answer_yes (record { filled = λ s h. (c.loop-s.invariant s (omega arith)).filled; empty = λ s h. (c.loop-s.invariant s (omega arith)).empty })
+returns c =
+    let p = problem_by c.args.problem.now in
+    let P = plan_of c.args.plan.now in
+    let n = length c.args.problem.now.slots.now / 4 in
+    named_by_slots p P
+    (decides_below _ n _ _ (λ s differ. differ)
+    (cases_from_all _ _ _ (NamedAt p P) (λ s. ¬ NamedAt p P s) c.all.ensures.ran (YieldsList-from_range 0 n n refl (omega arith))
+    (λ x q k. search (rules, tests)) (λ x q k. search (rules, tests))))

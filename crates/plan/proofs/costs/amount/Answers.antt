@@ -1,21 +1,18 @@
--- `plan::costs::amount` meets its contract: each code has its own number, and any other 0.
-use mathlib.Core.Path.{sym}
-use Rattle.pacsolve.specs.Cost.{amount}
-use Rattle.plan.proofs.Amounts.{amount_unknown}
+-- `plan::costs::amount` meets its contract: each objective has its own number, and a code of none 0.
+use mathlib.Core.Path.{◌∙◌}
+use Rattle.plan.proofs.Amounts.{amount_of_weight, amount_of_dependencies, amount_of_duplicates, amount_of_none}
 use Rattle.plan.proofs.costs.amount.Goals as goal
 
-pub returns-then-code-eq0 : goal.returns-then-code-eq0
-unfolding amount
-returns-then-code-eq0 c slots objectives fits settings = rw c.if-code-eq0.true (c.weight.ensures slots objectives fits settings)
+pub returns-in-Some-Weight : goal.returns-in-Some-Weight
+returns-in-Some-Weight c slots objectives fits settings =
+    c.weight.ensures slots objectives fits settings ∙ amount_of_weight _ _ c.args.code (cc)
 
-pub returns-then-code-eq1 : goal.returns-then-code-eq1
-unfolding amount
-returns-then-code-eq1 c slots objectives fits settings = rw c.if-code-eq1.true c.dependencies.ensures
+pub returns-in-Some-Dependencies : goal.returns-in-Some-Dependencies
+returns-in-Some-Dependencies c slots objectives fits settings = c.dependencies.ensures ∙ amount_of_dependencies _ _ c.args.code (cc)
 
-pub returns-then-code-eq2 : goal.returns-then-code-eq2
-unfolding amount
-returns-then-code-eq2 c slots objectives fits settings = rw c.if-code-eq2.true (c.duplicates.ensures slots objectives fits settings)
+pub returns-in-Some-Duplicates : goal.returns-in-Some-Duplicates
+returns-in-Some-Duplicates c slots objectives fits settings =
+    c.duplicates.ensures slots objectives fits settings ∙ amount_of_duplicates _ _ c.args.code (cc)
 
-pub returns : goal.returns
-returns c slots objectives fits settings =
-    sym (amount_unknown _ _ c.args.code c.if-code-eq0.false c.if-code-eq1.false c.if-code-eq2.false)
+pub returns-in-None : goal.returns-in-None
+returns-in-None c slots objectives fits settings = amount_of_none _ _ c.args.code (cc)

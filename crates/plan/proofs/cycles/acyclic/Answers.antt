@@ -2,8 +2,5 @@
 use Rattle.plan.proofs.Trails.{acyclic_by_rows}
 use Rattle.plan.proofs.cycles.acyclic.Goals as goal
 
-pub returns : goal.returns
-returns c entries objectives fits =
-    let steps = c.steps-rows.ensures entries objectives fits c.args.settings in
-    acyclic_by_rows _ _ c.if-settings-ne0.false
-    (c.close.ensures entries c.args.slots.now objectives fits c.args.table.now c.args.settings steps) c.loopless.ensures
+pub returns-else-problem-ne0 : goal.returns-else-problem-ne0
+returns-else-problem-ne0 c = acyclic_by_rows _ _ c.if-problem-ne0.false c.trails.ensures c.loopless.ensures

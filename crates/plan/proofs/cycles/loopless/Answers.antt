@@ -1,28 +1,13 @@
--- `plan::cycles::loopless` meets its contract. The loop's invariant: no row passed holds its own entry. The measure is the number of rows left.
-use native.Mathlib.Nat.{not-suc-le-zero}
-use native.Mathlib.Omega.{arith}
-use borrow.Author.Count.{below_more}
-use Rattle.basis.proofs.Answers.{holds, fails, answer_yes, answer_no}
+-- `plan::cycles::loopless` meets its contract: every row is tested.
+use mathlib.Core.Path.{refl}
+use Rattle.std.proofs.Common.{rules, tests}
+use Rattle.std.proofs.lemmas.Iterator.{cases_from_all, YieldsList-from_range}
+use Rattle.plan.specs.Closure.{Holds}
+use Rattle.plan.proofs.Every.{decides_below}
 use Rattle.plan.proofs.cycles.loopless.Goals as goal
 
-pub loop-d-init : goal.loop-d-init
-loop-d-init c k h = absurd (not-suc-le-zero h)
-
-pub overflow_cast-d : goal.overflow_cast-d
-overflow_cast-d c = omega arith
-
-pub returns-then-has : goal.returns-then-has
-returns-then-has c =
-    answer_no (λ n. n c.loop-d.d c.loop-d-test.true (holds c.has.ensures c.if-has.true))
-
-pub overflow_add-d : goal.overflow_add-d
-overflow_add-d c = omega arith
-
-pub loop-d-smaller : goal.loop-d-smaller
-loop-d-smaller c = omega arith
-
-pub loop-d-preserved : goal.loop-d-preserved
-loop-d-preserved c = below_more _ _ c.loop-d.invariant (fails c.has.ensures c.if-has.false)
-
 pub returns : goal.returns
-returns c = answer_yes (λ d h. c.loop-d.invariant d (omega arith))
+returns c =
+    decides_below _ 64 _ _ (λ d holds not. not holds)
+    (cases_from_all _ _ _ (λ d. ¬ Holds c.args.rows.now d d) (λ d. Holds c.args.rows.now d d) c.all.ensures.ran (YieldsList-from_range 0 64 64 refl refl)
+    (λ x q k. search (rules, tests)) (λ x q k. search (rules, tests)))

@@ -3,4 +3,4 @@ use Rattle.plan.proofs.Reaching.{reached_by_grown}
 use Rattle.plan.proofs.walks.reached.Goals as goal
 
 pub returns : goal.returns
-returns c entries objectives fits = reached_by_grown _ _ _ (c.grown.ensures entries objectives fits)
+returns c = reached_by_grown _ _ _ c.grown.ensures

@@ -1,21 +1,17 @@
--- `plan::walks::round` meets its contract. The loop's invariant is a round at its slot; the measure is the number of slots left.
+-- `plan::walks::round` meets its contract. The loop's invariant is a round at its slot.
 use native.Mathlib.Omega.{arith}
-use Rattle.plan.proofs.Reaching.{round_start, round_on, round_end}
+use Rattle.plan.proofs.Reaching.{joins_none, round_start, round_on}
+use Rattle.plan.proofs.SlotTests.{none_no_member}
+use Rattle.plan.proofs.walks.round.Goals.{in-Some, in_default}
 use Rattle.plan.proofs.walks.round.Goals as goal
 
 pub loop-s-init : goal.loop-s-init
-loop-s-init c entries objectives fits settings = round_start _ _ _
-
-pub overflow_add-s : goal.overflow_add-s
-overflow_add-s c = omega arith
-
-pub loop-s-smaller : goal.loop-s-smaller
-loop-s-smaller c = omega arith
+loop-s-init c = round_start _ _ _
 
 pub loop-s-preserved : goal.loop-s-preserved
-loop-s-preserved c entries objectives fits settings =
-    round_on _ _ c.loop-s-test.true (c.loop-s.invariant entries objectives fits settings)
-    (rw (c.owner-owner.ensures, c.choice-choice.ensures) at c.joined-next.ensures)
-
-pub returns : goal.returns
-returns c entries objectives fits settings = round_end _ _ c.loop-s-test.false (c.loop-s.invariant entries objectives fits settings)
+loop-s-preserved c =
+    round_on _ _ c.loop-s-test.true c.loop-s.invariant
+    (elim c.match-choice.branch [
+      | in-Some w ↦ rw w.next-is (rw (w.owner-owner.ensures, ← w.in-Some.ensures.0) at w.joined-next.ensures)
+      | in_default w ↦ rw w.next-is (joins_none (λ x. none_no_member c.args.plan.now.set (omega arith) (rw w.in_default.ensures at x.1)))
+    ])

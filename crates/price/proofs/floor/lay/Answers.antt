@@ -1,58 +1,43 @@
 -- `price::floor::lay` meets its contract.
+use Prim.Native.Nat.{◌+◌, ◌^◌, ◌<◌}
 use native.Mathlib.Omega.{arith}
 use Rattle.price.specs.Prices.{Low}
 use Rattle.price.proofs.Bounds.{raised_low}
 use Rattle.price.proofs.Drawing.{low_after}
-use Rattle.price.proofs.Grounds.{laid, credit_fits}
-use Rattle.price.proofs.floor.lay.Goals.{After-pay_all-fixed, After-pay_slots-shared, After-raised}
+use Rattle.price.proofs.Grounds.{laid}
+use Rattle.price.proofs.floor.lay.Goals.{After-raised, After-pay_needs-beyond}
 use Rattle.price.proofs.floor.lay.Goals as goal
 
--- the prices stay low
+-- the prices are low to begin with, and stay low
 raised_prices : (c : After-raised) → Low c.raised.result
-raised_prices c =
-    raised_low _ _ _ _ c.requires.moderate.1.each c.requires.moderate.1.small.double c.raised.ensures
-
-prices_after_all : (c : After-pay_all-fixed) → Low c.raised.result → Low c.pay_all-fixed.new.price
-prices_after_all c low = (low_after low c.pay_all-fixed.ensures).0
-
-prices_after_slots : (c : After-pay_slots-shared) → Low c.pay_all-fixed.new.price → Low c.pay_slots-shared.new.price
-prices_after_slots c low = (low_after low c.pay_slots-shared.ensures).0
+raised_prices c = raised_low _ _ _ _ c.requires.moderate.each c.requires.moderate.small.double c.raised.ensures
 
 pub pay_all-fixed-requires : goal.pay_all-fixed-requires
 pay_all-fixed-requires c = raised_prices (goal.at.pay_all-fixed-requires c).After-raised
 
 pub pay_slots-shared-requires : goal.pay_slots-shared-requires
 pay_slots-shared-requires c =
-    let at = goal.at.pay_slots-shared-requires c in
-    record { low = prices_after_all at.After-pay_all-fixed (raised_prices at.After-raised); bounded = c.requires.bounded }
+    (low_after (raised_prices (goal.at.pay_slots-shared-requires c).After-raised) c.pay_all-fixed.ensures).0
 
 pub pay_needs-beyond-requires : goal.pay_needs-beyond-requires
 pay_needs-beyond-requires c =
-    let at = goal.at.pay_needs-beyond-requires c in
-    record {
-      low = prices_after_slots at.After-pay_slots-shared (prices_after_all at.After-pay_all-fixed (raised_prices at.After-raised));
-      bounded = c.requires.bounded;
-    }
+    (low_after (low_after (raised_prices (goal.at.pay_needs-beyond-requires c).After-raised) c.pay_all-fixed.ensures).0 c.pay_slots-shared.ensures).0
+
+-- all that is drawn is no more than they come to
+drawn_fits : (c : After-pay_needs-beyond) → Low c.raised.result → c.pay_all-fixed.result + c.pay_slots-shared.result + c.pay_needs-beyond.result < 2 ^ 62
+drawn_fits c low = omega (arith, c.pay_all-fixed.ensures.whole, c.pay_slots-shared.ensures.whole, c.pay_needs-beyond.ensures.whole, low.1)
 
 pub overflow_add-result : goal.overflow_add-result
-overflow_add-result c = omega (arith, c.pay_all-fixed.ensures.whole, c.pay_slots-shared.ensures.whole, c.pay_needs-beyond.ensures.whole, (raised_prices (goal.at.overflow_add-result c).After-raised).1)
+overflow_add-result c =
+    let at = goal.at.overflow_add-result c in
+    omega (arith, drawn_fits at.After-pay_needs-beyond (raised_prices at.After-raised))
 
 pub overflow_add-result-2 : goal.overflow_add-result-2
-overflow_add-result-2 c = omega (arith, c.pay_all-fixed.ensures.whole, c.pay_slots-shared.ensures.whole, c.pay_needs-beyond.ensures.whole, (raised_prices (goal.at.overflow_add-result-2 c).After-raised).1)
-
-pub overflow_mul-result : goal.overflow_mul-result
-overflow_mul-result c = omega (arith, (credit_fits _ _ c.requires.moderate.1.small c.packages_of-known.ensures.0).0)
-
-pub overflow_add-result-3 : goal.overflow_add-result-3
-overflow_add-result-3 c = omega (arith, (credit_fits _ _ c.requires.moderate.1.small c.packages_of-known.ensures.0).1)
+overflow_add-result-2 c =
+    let at = goal.at.overflow_add-result-2 c in
+    omega (arith, drawn_fits at.After-pay_needs-beyond (raised_prices at.After-raised))
 
 pub returns : goal.returns
 returns c =
-    laid
-    c.requires.moderate.1
-    c.packages_of-known.ensures.1
-    c.packages_of-known.ensures.0
-    c.raised.ensures
-    c.pay_all-fixed.ensures
-    c.pay_slots-shared.ensures
-    c.pay_needs-beyond.ensures
+    let known = c.packages_of-known.ensures in
+    laid c.requires.moderate known.packaged known.few c.raised.ensures c.pay_all-fixed.ensures c.pay_slots-shared.ensures c.pay_needs-beyond.ensures

@@ -9,7 +9,7 @@ use Rattle.report.proofs.members.all.Given as goal
 
 abbrev pub invariant-loop-here : goal.invariant-loop-here
 invariant-loop-here l =
-    (lines : List Line) × (done : List Line) × Telling l.text l.set l.number l.initial.out l.at lines done l.here l.out × (length l.out ≡ length l.initial.out)
+    (lines : List Line) × (done : List Line) × Telling l.text l.plan l.initial.output lines done l.here l.output
 
 abbrev pub decreases-loop-here : goal.decreases-loop-here
 decreases-loop-here l = length l.text - l.here.at

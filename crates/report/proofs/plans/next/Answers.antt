@@ -2,11 +2,11 @@
 use Rattle.report.proofs.Showing.{plan_room, advances, stops}
 use Rattle.report.proofs.plans.next.Goals as goal
 
-pub all-filled-requires : goal.all-filled-requires
-all-filled-requires c = plan_room c.requires.showing c.requires.fewer
+pub all-requires : goal.all-requires
+all-requires c = plan_room c.requires.showing _ c.requires.fewer
 
-pub returns-in-Plan : goal.returns-in-Plan
-returns-in-Plan c = advances c.requires c.next-answer.ensures c.in-Plan.is c.next-answer.auto.plan c.all-filled.ensures
+pub returns-in-Ok : goal.returns-in-Ok
+returns-in-Ok c = advances c.requires c.next.ensures c.in-Ok.is c.next.auto.plan c.all.ensures
 
-pub returns-in-Refused : goal.returns-in-Refused
-returns-in-Refused c = stops c.requires c.next-answer.ensures c.in-Refused.is
+pub returns-in-Err : goal.returns-in-Err
+returns-in-Err c = stops c.requires c.next.ensures c.in-Err.is

@@ -1,10 +1,9 @@
--- `search::choose::cheapest` meets its contract: the best so far is one of the choices.
-use Rattle.bitset.specs.Bits.{count}
-use Rattle.search.proofs.Choosing.{Choosing}
+-- `search::choose::cheapest`: the loop walks through the choices, and the best so far is one of them.
+use mathlib.Core.Path.{◌≡◌}
+use Rattle.bitset.specs.Bits.{Member}
+use Rattle.bitset.proofs.MemberWalk.{Walked}
 use Rattle.search.proofs.choose.cheapest.Given as goal
 
-abbrev pub invariant-loop-rest : goal.invariant-loop-rest
-invariant-loop-rest l = Choosing l.all l.best l.rest
-
-abbrev pub decreases-loop-rest : goal.decreases-loop-rest
-decreases-loop-rest l = count l.rest
+abbrev pub invariant-loop-e : goal.invariant-loop-e
+invariant-loop-e l =
+    record { walk : Walked l.all l.e-iterator.rest (λ e. Unit {0}); its : ¬ (l.all ≡ 0) → Member l.all l.best }

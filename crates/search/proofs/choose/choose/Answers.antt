@@ -1,6 +1,6 @@
--- `search::choose::choose` meets its contract.
-use Rattle.search.proofs.Choosing.{met_chosen}
+-- `search::choose::choose` meets its contract: a choice that must be there is one of the choices.
+use Rattle.bitset.proofs.Made.{meet_members}
 use Rattle.search.proofs.choose.choose.Goals as goal
 
 pub returns-then-met-ne0 : goal.returns-then-met-ne0
-returns-then-met-ne0 c some = met_chosen _ _ _ c.if-met-ne0.true c.lowest.ensures
+returns-then-met-ne0 c some = ((meet_members _ _ _).0 (c.lowest.ensures.some c.if-met-ne0.true).member).0

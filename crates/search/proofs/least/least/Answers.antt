@@ -1,50 +1,24 @@
 -- `search::least::least` meets its contract.
-use mathlib.Core.Path.{refl, ◌∙◌}
-use Prim.Native.Nat.{◌+◌, ◌*◌}
-use native.Mathlib.Omega.{arith}
-use borrow.Kind.Array.{good_length, e_int}
-use mir.Syntax.{w64}
-use Rattle.price.proofs.Worth.{scaled_small}
-use Rattle.node.specs.Facts.{Facts}
-use Rattle.search.proofs.Rounds.{worked_out, found_none}
-use Rattle.search.proofs.least.least.Goals.{After-base_prices-base}
+use mathlib.Core.Path.{refl}
+use Rattle.plan.specs.Posing.{problem_by}
+use Rattle.node.specs.Sought.{asked_of}
+use Rattle.search.specs.Found.{Whole}
+use Rattle.search.proofs.Foremost.{start_whole}
+use Rattle.search.proofs.Rounds.{posed_rising, found_none}
+use Rattle.search.proofs.least.least.Goals.{After-narrow}
 use Rattle.search.proofs.least.least.Goals as goal
 
--- all that is worked out of the tables
-known : (c : After-base_prices-base)
-    → Facts c.args.entries.now c.args.slots.now c.args.objectives.now c.args.settings.mode c.clashes-clash.result c.alikes-alike.result c.base_prices-base.result c.spans-first.result c.scale-units.result
-known c =
-    worked_out c.args.entries.now c.args.slots.now c.args.settings c.args.objectives.now c.args.fits c.requires (λ e. omega (arith, c.type_inv.entries (e * 5 + 4)))
-    c.clashes-clash.ensures c.alikes-alike.ensures c.scale-units.ensures c.base_prices-base.ensures c.spans-first.ensures
+-- the node that narrowing leaves of the root alone
+begun : (c : After-narrow) → Whole (problem_by c.args.problem.now) (asked_of c.args.given) c.narrow.result c.narrow.new.choices
+begun c =
+    start_whole _ _ _ c.requires _ _ c.under.ensures _ c.root_alone-root.ensures.must _ (λ s e h k m. m) c.root_alone-root.ensures.free _ refl
+    (c.above-top.ensures.above _ _ _ _) _ _ (c.narrow.ensures _)
 
-pub clashes-clash-requires : goal.clashes-clash-requires
-clashes-clash-requires c = c.alikes-alike.ensures
+pub facts_of-facts-requires-clause-rising : goal.facts_of-facts-requires-clause-rising
+facts_of-facts-requires-clause-rising c = posed_rising _ _ _ _ _ c.requires
 
-pub base_prices-base-requires : goal.base_prices-base-requires
-base_prices-base-requires c = record { small = scaled_small _ _ c.scale-units.ensures c.requires.apart; few = c.requires.entries }
+pub returns-in_err-node : goal.returns-in_err-node
+returns-in_err-node c = found_none _ (begun (goal.at.returns-in_err-node c).After-narrow) c.in_err-node.was c.from_residual.ensures
 
-pub above-top-requires : goal.above-top-requires
-above-top-requires c = c.requires.entries
-
-pub start-node-requires : goal.start-node-requires
-start-node-requires c =
-    record {
-      posed = c.requires;
-      facts = (refl, (c.above-top.ensures.1 c.args.slots.now c.args.objectives.now c.args.fits c.args.settings, known (goal.at.start-node-requires c).After-base_prices-base));
-    }
-
-pub returns-then-not-alive : goal.returns-then-not-alive
-returns-then-not-alive c = found_none c.start-node.ensures.0 c.if-not-alive.true c.under.ensures.0
-
-pub guess-low-requires : goal.guess-low-requires
-guess-low-requires c =
-    (((known (goal.at.guess-low-requires c).After-base_prices-base).alikes.sized, (known (goal.at.guess-low-requires c).After-base_prices-base).moderate), λ e h. omega (arith, (known (goal.at.guess-low-requires c).After-base_prices-base).spans.within e h, c.requires.slots))
-
-pub rounds-requires : goal.rounds-requires
-rounds-requires c =
-    let long = c.start-node.ensures.1 ∙ good_length (e_int w64) 256 c.args.fits _ c.well_formed.1.1.1.1.0 in
-    record {
-      posed = c.requires;
-      whole =
-          (long, (c.above-top.ensures.0, (c.above-top.ensures.1 c.args.slots.now c.args.objectives.now c.args.fits c.args.settings, (c.start-node.ensures.0, known (goal.at.rounds-requires c).After-base_prices-base))));
-    }
+pub rounds-requires-clause-whole : goal.rounds-requires-clause-whole
+rounds-requires-clause-whole c = rw (c.in_ok-node.was) at (begun (goal.at.rounds-requires-clause-whole c).After-narrow)

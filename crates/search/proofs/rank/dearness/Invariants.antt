@@ -1,10 +1,6 @@
--- `search::rank::dearness` returns: the loop walks through the choices.
-use Rattle.bitset.specs.Bits.{count}
-use Rattle.plan.proofs.MemberWalk.{Walked}
+-- `search::rank::dearness`: the loop walks through the choices.
+use Rattle.bitset.proofs.MemberWalk.{Walked}
 use Rattle.search.proofs.rank.dearness.Given as goal
 
-abbrev pub invariant-loop-rest : goal.invariant-loop-rest
-invariant-loop-rest l = Walked l.choices l.rest (λ e. Unit {0})
-
-abbrev pub decreases-loop-rest : goal.decreases-loop-rest
-decreases-loop-rest l = count l.rest
+abbrev pub invariant-loop-e : goal.invariant-loop-e
+invariant-loop-e l = Walked l.choices l.e-iterator.rest (λ e. Unit {0})

@@ -2,6 +2,5 @@
 use Rattle.search.proofs.Halves.{parted}
 use Rattle.search.proofs.walk.halve.Goals as goal
 
-pub returns : goal.returns
-returns c =
-    (c.ranges.all.fits, λ some. parted _ _ _ _ c.ranges.all.fits (c.choose-e.ensures some) c.with-one.ensures c.without-rest.ensures)
+pub returns-clause-parted : goal.returns-clause-parted
+returns-clause-parted c some = parted _ _ _ _ c.ranges.all.fits (c.choose-e.ensures some) c.with-one.ensures c.without-rest.ensures
