@@ -77,6 +77,7 @@ fn next<'a>(
     match line::parse(&text[from..]) {
         Some(Record::Entry(entry)) => declare(text, here, entry, names, entries),
         Some(Record::Slot(slot)) => want(text, here, slot, names, slots),
+        // (It does not come to that: the text is in the layout.)
         None => here,
     }
 }
@@ -88,6 +89,7 @@ pub fn tables(text: &[u8], entries: &mut [u16], slots: &mut [u16])
 {
     let mut names = Names::none();
     let mut here = START;
+    // (How far the text is read is told by the record that was read, so this stays a loop.)
     while here.at + 2 < text.len() {
         here = next(text, here, &mut names, entries, slots);
     }

@@ -3,7 +3,7 @@ use mathlib.Core.Path.{◌≡◌, refl, ◌∙◌}
 use mathlib.Core.List.{List}
 use Prim.Native.Nat.{ℕ}
 use lib.ListN.{length}
-use Rattle.std.specs.Prelude.{Bool, Result, Ok, Err}
+use Rattle.std.specs.Prelude.{Bool, Result, Err}
 use Rattle.basis.specs.declared.Refusal.{Refusal}
 use Rattle.basis.specs.Rows.{Row, Gives, GivesNone, number_of as refusal_number}
 use Rattle.basis.proofs.Rows.{gives_one, gives_not_none}

@@ -2,7 +2,6 @@
 use mathlib.Core.Path.{◌≡◌, refl}
 use mathlib.Core.List.{List}
 use Prim.Native.Nat.{ℕ}
-use native.Mathlib.Omega.{arith}
 use lib.ListN.{length}
 use Rattle.std.specs.Prelude.{Result, Ok}
 use Rattle.basis.specs.Rows.{GivesNone, number_of as refusal_number}

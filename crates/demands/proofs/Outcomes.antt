@@ -5,7 +5,7 @@ use native.Mathlib.Decide.{dec_lt}
 use native.Mathlib.Omega.{arith}
 use lib.ListN.{length, get_or}
 use lib.Seq.{ext_get_or}
-use Rattle.std.specs.Prelude.{List, Result, Ok, Err, IfOk}
+use Rattle.std.specs.Prelude.{List, Result, IfOk}
 use Rattle.basis.specs.declared.Refusal.{Refusal}
 use Rattle.basis.specs.Rows.{number_of as refusal_number}
 use Rattle.basis.proofs.Refusals.{number_differs}

@@ -6,7 +6,6 @@ use mathlib.Core.Logic.{inl, inr}
 use Prim.Native.Nat.{ℕ, suc}
 use lib.ListN.{length}
 use Rattle.std.specs.Prelude.{Err}
-use Rattle.basis.specs.declared.Refusal.{Refusal}
 use Rattle.basis.specs.declared.Refusal.TheVariants.{NoPlan}
 use Rattle.basis.specs.Rows.{Gives, GivesNone, number_of as refusal_number}
 use Rattle.basis.proofs.Refusals.{number_differs}

@@ -16,7 +16,7 @@ use Rattle.pacsolve.specs.declared.Condition.{Condition}
 use Rattle.pacsolve.specs.declared.Cost.{Cost}
 use Rattle.pacsolve.specs.declared.Listed.{Listed}
 use Rattle.pacsolve.specs.Problem.{Problem}
-use Rattle.pacsolve.specs.Plan.{Plan as APlan, plan, plan_of, Sound, faults, condition_number}
+use Rattle.pacsolve.specs.Plan.{Plan as APlan, plan, Sound, faults, condition_number}
 use Rattle.pacsolve.specs.Cost.{cost}
 use Rattle.pacsolve.specs.Listing.{Asked, from_the_start, after}
 use Rattle.pacsolve.proofs.Conditions.{sound_faultless}
@@ -33,7 +33,7 @@ use Rattle.price.proofs.Worth.{different_codes}
 use Rattle.node.specs.declared.Given.{Given}
 use Rattle.node.specs.Sought.{asked_of, CostedGiven}
 use Rattle.search.specs.Found.{Posed, Found, none_left, the_least}
-use Rattle.lister.specs.Answers.{Answer, handed, Lists, refused, found}
+use Rattle.lister.specs.Answers.{handed, Lists, refused, found}
 use Rattle.lister.specs.Given.{asked_after, Backs, no_plan, sound_plan, unsound_plan}
 use Rattle.lister.proofs.Asked.{Backed, ask_eleven, ask_none}
 

@@ -10,6 +10,7 @@ use catalogue::call::survey;
 use pacsolve::Listed;
 
 // The record after an answer: a plan makes the stage 1 and stores its set, 11 makes it 2 and keeps the set, any other refusal leaves it.
+// (A match within a match, since the last arm then knows that the refusal is another than 11.)
 fn moved_on(listing: ListingRecord, answer: Result<Listed, Refusal>) -> ListingRecord
     ensures { MovesOn listing answer result }
 {

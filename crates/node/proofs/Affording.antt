@@ -1,5 +1,4 @@
 -- What a node can afford: a plan that is sought pays the floor and its members' prices out of what it is worth, which stays below the ceiling.
-use mathlib.Core.Path.{refl}
 use mathlib.Core.List.{List}
 use Rattle.std.specs.Prelude.{Option}
 use Prim.Native.Nat.{ℕ, ◌+◌}

@@ -3,12 +3,9 @@ use mathlib.Core.Path.{◌≡◌, refl, ◌∙◌}
 use mathlib.Core.List.{List}
 use mathlib.Core.Logic.{◌⊎◌, inl, inr, ⊎_elim}
 use Prim.Native.Nat.{ℕ, ◌+◌, ◌≤◌, ◌<◌}
-use native.Mathlib.Decide.{ℕ_discrete}
-use native.Mathlib.Omega.{arith}
-use lib.ListN.{length, get_or, set, replicate, length-set, length-replicate}
+use lib.ListN.{get_or, replicate, length-replicate}
 use Rattle.bitset.specs.Bits.{Member}
 use Rattle.bitset.specs.Changes.{With}
-use Rattle.bitset.proofs.Sets.{member_or_not, none_in_empty}
 use Rattle.pacsolve.specs.Problem.{Problem}
 use Rattle.pacsolve.specs.Plan.{Plan, chosen, MemberOf, Step, here, on}
 use Rattle.pacsolve.specs.Listing.{Good}
@@ -16,16 +13,12 @@ use Rattle.pacsolve.proofs.Walks.{Trail, walk_on}
 use Rattle.catalogue.specs.Spans.{Spans}
 use Rattle.catalogue.proofs.Spanned.{span_owner}
 use Rattle.plan.specs.Closure.{Holds, Passes}
-use Rattle.plan.proofs.Closing.{stored_here, stored_elsewhere}
 use Rattle.plan.proofs.Reaching.{walk_member}
 use Rattle.plan.proofs.Trails.{fresh_none}
-use Rattle.node.specs.Arrows.{Leads, at_once, by_way, Sources, Pointed, PointedAll, Followed, WithLooped, Loops, TakenBack, Returns, Unlooped}
+use Rattle.node.specs.Arrows.{Leads, at_once, by_way, Sources, PointedAll, Followed, Loops, TakenBack, Returns, Unlooped}
 use Rattle.node.specs.Sought.{Inside}
-use Rattle.node.specs.Settling.{Less}
-use Rattle.node.specs.Steps.{Only}
 use Rattle.node.proofs.Slotted.{Slotted}
 use Rattle.node.proofs.Settling.{with_only}
-use Rattle.node.proofs.Stores.{stored_fewer, stored_keeps}
 
 module _ {first choices : List ℕ} where
   pub sources_none : Sources first choices (replicate 64 0)

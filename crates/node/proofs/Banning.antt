@@ -5,7 +5,7 @@ use mathlib.Core.Logic.{◌⊎◌, ⊎_elim}
 use Rattle.std.specs.Prelude.{Option, Some, None}
 use Prim.Native.Nat.{ℕ, ◌<◌}
 use lib.Bits.{bit_and, bit_or}
-use lib.ListN.{length, get_or}
+use lib.ListN.{get_or}
 use Rattle.bitset.specs.Bits.{Member}
 use Rattle.bitset.proofs.Least.{some_member}
 use Rattle.bitset.proofs.Made.{meet_members, join_members}
@@ -17,7 +17,6 @@ use Rattle.node.specs.declared.Node.{Node}
 use Rattle.node.specs.Banning.{Bans, none_left, some_left}
 use Rattle.node.specs.Sought.{Inside}
 use Rattle.node.specs.Steps.{NoneGained, Fewer, Settled}
-use Rattle.node.proofs.Left.{gained_none, fewer_left}
 
 -- the bans joined: something must be there that must not, or the node is left
 module _ (must ban out : ℕ) where

@@ -1,7 +1,7 @@
 -- Rows of entries, made bit by bit and stored one after the other, over any relation; what two rows share; and the rows of a call.
 use mathlib.Core.Path.{◌≡◌, sym, ◌∙◌}
 use mathlib.Core.List.{List}
-use mathlib.Core.Logic.{◌⊎◌, ◌↔◌, inl, inr}
+use mathlib.Core.Logic.{◌↔◌}
 use Prim.Native.Nat.{ℕ, ◌+◌, ◌≤◌, ◌<◌}
 use native.Mathlib.Decide.{ℕ_discrete}
 use native.Mathlib.Nat.{not-suc-le-zero}
@@ -9,9 +9,8 @@ use native.Mathlib.Omega.{arith}
 use lib.Bits.{bit_and}
 use lib.ListN.{length, get_or, set, length-set, replicate, length-replicate}
 use Rattle.bitset.specs.Bits.{Member}
-use Rattle.bitset.specs.Changes.{With, Without}
+use Rattle.bitset.specs.Changes.{Without}
 use Rattle.bitset.proofs.Made.{meet_members}
-use Rattle.bitset.proofs.Sets.{none_in_empty}
 use Rattle.catalogue.specs.Gives.{cargo, pip}
 use Rattle.plan.specs.Pairs.{field, Beside}
 use Rattle.plan.proofs.Closing.{stored_here, stored_elsewhere}

@@ -3,20 +3,19 @@ use mathlib.Core.Path.{◌≡◌, refl, ap, ◌∙◌}
 use mathlib.Core.Bool.{Bool}
 use mathlib.Core.List.{List}
 use mathlib.Core.Logic.{◌⊎◌, inl, inr, ⊎_elim}
-use Prim.Native.Nat.{ℕ, ◌+◌, ◌-◌, ◌*◌, ◌^◌, ◌≤◌, ◌<◌}
-use native.Mathlib.Decide.{ℕ_discrete}
-use native.Mathlib.Nat.{pow-succ', le_refl, lt_of_lt_of_le}
+use Prim.Native.Nat.{ℕ, ◌+◌, ◌-◌, ◌*◌, ◌^◌, ◌<◌}
+use native.Mathlib.Nat.{pow-succ'}
 use native.Mathlib.Omega.{arith}
 use lib.Bits.{bit_and}
 use lib.Count.{count_leading_zeros, leading_top}
 use lib.ListN.{get_or}
 use Rattle.basis.specs.Tests.{Decides}
-use Rattle.basis.proofs.Decide.{decides_by, below_suc}
+use Rattle.basis.proofs.Decide.{decides_by}
 use Rattle.bitset.specs.Bits.{bit, Member, count}
 use Rattle.bitset.specs.Changes.{With, Without}
 use Rattle.bitset.proofs.Counts.{count_less}
 use Rattle.bitset.proofs.Made.{meet_members, rest_members}
-use Rattle.bitset.proofs.Sets.{below_by_members, empty_by_members, bit_at, member_below, member_or_not, none_in_empty, not_empty}
+use Rattle.bitset.proofs.Sets.{below_by_members, empty_by_members, bit_at, member_below, member_or_not, not_empty}
 use Rattle.pacsolve.specs.Problem.{Problem}
 use Rattle.pacsolve.specs.Plan.{Plan, chosen, MemberOf, Step}
 use Rattle.pacsolve.specs.Listing.{Good}

@@ -12,7 +12,7 @@ use Rattle.bitset.specs.Bits.{Member}
 use Rattle.bitset.specs.Search.{LowestOr64}
 use Rattle.bitset.proofs.Sets.{member_or_not, not_empty}
 use Rattle.pacsolve.specs.Problem.{Problem}
-use Rattle.pacsolve.specs.Plan.{Plan, plan, none, chosen, MemberOf}
+use Rattle.pacsolve.specs.Plan.{Plan, plan, chosen, MemberOf}
 use Rattle.pacsolve.specs.declared.Cost.{Cost}
 use Rattle.pacsolve.specs.declared.Listed.{Listed}
 use Rattle.pacsolve.specs.Cost.{cost}

@@ -1,5 +1,5 @@
 -- Steps one after the other: what each keeps all keep. And what a step promises of all good plans, as a promise about those that are sought.
-use mathlib.Core.Path.{◌≡◌, refl, ◌∙◌}
+use mathlib.Core.Path.{refl}
 use mathlib.Core.List.{List}
 use Rattle.std.specs.Prelude.{Option, Some}
 use Prim.Native.Nat.{ℕ}
@@ -14,7 +14,7 @@ use Rattle.node.specs.Settling.{SettledBy}
 use Rattle.node.specs.Sought.{Limit, Inside}
 use Rattle.node.specs.Steps.{Settled}
 use Rattle.node.specs.Narrowing.{Ready, Narrowed}
-use Rattle.node.proofs.Left.{gained_none, gained_then, fewer_then, at_left, fewer_left}
+use Rattle.node.proofs.Left.{gained_then, fewer_then, at_left}
 use Rattle.node.proofs.Slotted.{tabled_slotted}
 use Rattle.node.proofs.Settling.{settled_for}
 

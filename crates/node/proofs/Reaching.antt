@@ -3,7 +3,6 @@ use mathlib.Core.Path.{◌≡◌, refl, sym, ◌∙◌}
 use mathlib.Core.List.{List}
 use mathlib.Core.Logic.{inl, inr, ⊎_elim}
 use Prim.Native.Nat.{ℕ, ◌+◌, ◌-◌, ◌^◌, ◌≤◌, ◌<◌}
-use native.Mathlib.Nat.{lt_of_lt_of_le}
 use native.Mathlib.Omega.{arith}
 use lib.Bits.{bit_and, bit_or}
 use lib.ListN.{get_or}
@@ -13,7 +12,7 @@ use Rattle.bitset.specs.Changes.{With}
 use Rattle.bitset.specs.Search.{LowestOr64}
 use Rattle.bitset.proofs.Counts.{count_le, count_less}
 use Rattle.bitset.proofs.Made.{meet_members, join_members, rest_members}
-use Rattle.bitset.proofs.Sets.{member_below, member_or_not, none_in_empty, not_empty}
+use Rattle.bitset.proofs.Sets.{member_below, member_or_not, not_empty}
 use Rattle.pacsolve.specs.Problem.{Problem}
 use Rattle.pacsolve.specs.Plan.{Plan, MemberOf, Walk, here, on}
 use Rattle.pacsolve.specs.Listing.{Good}

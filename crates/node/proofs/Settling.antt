@@ -1,15 +1,15 @@
 -- Why settling loses no plan: what a slot with no choice or one tells, one slot after the other, and what it comes to for a problem that the slots belong to.
-use mathlib.Core.Path.{◌≡◌, refl, sym, subst, ◌∙◌}
+use mathlib.Core.Path.{◌≡◌, refl, subst, ◌∙◌}
 use mathlib.Core.List.{List}
-use mathlib.Core.Logic.{◌⊎◌, inl, inr, ⊎_elim}
-use Rattle.std.specs.Prelude.{Option, Some, None}
+use mathlib.Core.Logic.{◌⊎◌, inr, ⊎_elim}
+use Rattle.std.specs.Prelude.{Option, Some}
 use Prim.Native.Nat.{ℕ, ◌/◌, ◌<◌}
 use native.Mathlib.Decide.{dec_lt}
 use native.Mathlib.Omega.{arith}
 use lib.ListN.{length, get_or, set, length-set}
 use Rattle.bitset.specs.Bits.{Member}
 use Rattle.bitset.specs.Changes.{With}
-use Rattle.bitset.proofs.Sets.{none_in_empty, not_empty}
+use Rattle.bitset.proofs.Sets.{none_in_empty}
 use Rattle.pacsolve.specs.Problem.{Problem}
 use Rattle.pacsolve.specs.Plan.{Plan, chosen, MemberOf}
 use Rattle.pacsolve.specs.Listing.{Good}
@@ -17,10 +17,10 @@ use Rattle.catalogue.specs.Spans.{owner_in}
 use Rattle.node.specs.declared.Node.{Node}
 use Rattle.node.specs.Banning.{Bans, none_left, some_left}
 use Rattle.node.specs.Sought.{Inside}
-use Rattle.node.specs.Steps.{Only, NoneGained, Fewer, Settled}
-use Rattle.node.specs.Settling.{Less, SetInside, SlotSettled, Filled, InsideBy, SettledBy}
+use Rattle.node.specs.Steps.{NoneGained, Fewer, Settled}
+use Rattle.node.specs.Settling.{Less, SlotSettled, Filled, InsideBy, SettledBy}
 use Rattle.node.proofs.Banning.{banned_fewer}
-use Rattle.node.proofs.Left.{gained_none, fewer_then, same_left, at_left, fewer_left}
+use Rattle.node.proofs.Left.{gained_none, fewer_then, at_left}
 use Rattle.node.proofs.Stores.{stored_fewer, stored_keeps}
 
 pub with_only : {set e r : ℕ} → With set e r → (d : ℕ) → Member r d → (d ≡ e) ⊎ Member set d

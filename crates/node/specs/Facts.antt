@@ -1,6 +1,6 @@
 -- What the search works out of the tables once: where the slots of each entry stand, rows of the entries that clash and of those of one package, how costs are scaled
 -- to one number, and the entries' prices.
-use Rattle.std.specs.Prelude.{◌≡◌, List, ℕ, ◌+◌, ◌*◌, ◌/◌, ◌≤◌, ◌<◌, length, get_or}
+use Rattle.std.specs.Prelude.{List, ℕ, ◌+◌, ◌*◌, ◌/◌, ◌≤◌, ◌<◌, length, get_or}
 use Rattle.bitset.specs.Bits.{Member}
 use Rattle.pacsolve.specs.Problem.{Problem as AProblem}
 use Rattle.pacsolve.specs.Plan.{Plan}

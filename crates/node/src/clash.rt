@@ -56,14 +56,14 @@ pub fn clashes(entries: &[u16], mode: u8, alike: &[u64; 64]) -> [u64; 64]
     requires { Alikes entries.now alike.now }
     ensures { Clashes entries.now mode result }
 {
-    if mode == PIP {
-        return shared(alike, alike);
+    match mode {
+        PIP => shared(alike, alike),
+        CARGO => {
+            let majors = equal_rows(entries, MAJOR);
+            shared(alike, &majors)
+        }
+        _ => [0u64; 64],
     }
-    if mode == CARGO {
-        let majors = equal_rows(entries, MAJOR);
-        return shared(alike, &majors);
-    }
-    [0u64; 64]
 }
 
 pub fn alikes(entries: &[u16]) -> [u64; 64]

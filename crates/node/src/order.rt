@@ -19,6 +19,7 @@ pub fn earlier(a: &[u8], b: &[u8]) -> bool
     false
 }
 
+// (A name for the derived order, whose promise is about the numbers of a cost.)
 fn cheaper(a: Cost, b: Cost) -> bool
     ensures { Decides result (Earlier (numbers a) (numbers b)) }
 {

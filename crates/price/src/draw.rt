@@ -7,6 +7,7 @@ ghost use Rattle.price.specs.Prices.{Low, Meets, Has, ServesSpan, Serves, Drawn}
 use catalogue::spans::SlotSpans;
 
 // The least price of a set's members.
+// (Of no member it is u64::MAX: what is promised of every member holds of it, and `pay` asks for the empty set itself.)
 fn least_of(price: &[u64; 64], set: u64) -> u64
     ensures { (e : ℕ) → Member set e → result ≤ get_or price.now e 0 }
 {

@@ -154,6 +154,7 @@ pub fn pay_needs(
     };
     let mut queue = need.waiting();
     let mut sum = 0;
+    // (The queue grows as it is walked, so this is no `for`.)
     while let Some(group) = queue.pop() {
         sum += need.follow_all(price, &mut queue, group);
     }

@@ -1,5 +1,5 @@
 // How many times each number of a cost counts where the cost is one number, and what an entry adds to that number.
-// (That a scale is `Small` is asked for, and is no ghost field of `Scale`: `scale` answers for all objectives, and where weight is asked for twice the scale is not small.)
+// (That a scale is `Small` is asked for, and is no ghost field of `Scale`: `scale` answers for all objectives, and where weight stands both second and third the scale is not small.)
 ghost use Rattle.std.specs.Prelude.{◌≡◌, ◌≤◌, ◌<◌, ◌^◌};
 ghost use Rattle.price.specs.Worth.{code_at, objective_at, span_of, part_of, count_of, double_of, Scaled, Small, worth_of, base_price_of};
 

@@ -8,7 +8,7 @@ use lib.ListN.{length, take, drop, length-append, take-append-drop, length-drop}
 use lib.Seq.{length-take-le}
 use Rattle.csv_text.proofs.Rows.{row_behind}
 use Rattle.report.specs.declared.put.Output.{Output}
-use Rattle.report.specs.Adding.{Room, Adds}
+use Rattle.report.specs.Adding.{Adds}
 
 -- nothing is put
 pub adds_none : (o : Output) → Adds o [] o

@@ -11,7 +11,6 @@ use Rattle.basis.specs.Rows.{number_of as refusal_number}
 use Rattle.catalogue.specs.Tables.{lent}
 use Rattle.csv_text.specs.declared.Sheet.{Sheet}
 use Rattle.csv_text.specs.Filling.{over}
-use Rattle.csv_text.specs.Layout.{Line}
 use Rattle.csv_text.specs.Says.{entry_count, slot_count, entry_table, slot_table}
 use Rattle.csv_text.specs.Reading.{Reads, refused, read}
 use Rattle.csv_text.proofs.Tables.{entry_table_length, slot_table_length}

@@ -4,7 +4,7 @@ use mathlib.Core.List.{List, [], ◌∷◌, ◌++◌, append_assoc, append-nil}
 use mathlib.Core.Logic.{◌⊎◌, inl, inr}
 use Prim.Native.Nat.{ℕ, suc, ◌+◌, ◌≤◌, ◌<◌}
 use native.Mathlib.Omega.{arith}
-use lib.ListN.{length, take, drop, length-append}
+use lib.ListN.{length, take, length-append}
 use lib.Seq.{take_at, take_all}
 use Rattle.basis.specs.Rows.{GivesNone, number_of as refusal_number}
 use Rattle.basis.specs.declared.Refusal.{Refusal}
@@ -32,7 +32,7 @@ use Rattle.report.specs.declared.members.Shown.{Shown}
 use Rattle.report.specs.declared.put.Output.{Output}
 use Rattle.report.specs.Output.{members, plans_from, shown, lent_by, first_rows, refusing, refused as print_refused, listed as print_listed}
 use Rattle.report.specs.Adding.{Adds}
-use Rattle.report.specs.Telling.{Tellable, AllTold, Catalogued, Empty, Showing, Unfinished, Further, NoFurther, FirstKnown, AllShown, PrintedIn, Showable}
+use Rattle.report.specs.Telling.{Tellable, AllTold, Catalogued, Showing, Unfinished, Further, NoFurther, FirstKnown, AllShown, PrintedIn, Showable}
 use Rattle.report.proofs.Adding.{adds_both, adds_length}
 use Rattle.report.proofs.Records.{members_short}
 

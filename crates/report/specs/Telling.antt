@@ -1,5 +1,5 @@
 -- How far a plan's members are told, and how far the plans of a listing are.
-use Rattle.std.specs.Prelude.{◌≡◌, List, [], ◌∷◌, ◌++◌, ℕ, suc, ◌+◌, ◌*◌, ◌≤◌, ◌<◌, eqb, length, take, drop, Option, MatchOption}
+use Rattle.std.specs.Prelude.{◌≡◌, List, [], ◌∷◌, ◌++◌, ℕ, suc, ◌+◌, ◌*◌, ◌≤◌, ◌<◌, eqb, length, take, Option, MatchOption}
 use Rattle.basis.specs.Rows.{GivesNone}
 use Rattle.bitset.specs.Bits.{bit}
 use Rattle.pacsolve.specs.Plan.{Plan, plan}

@@ -51,6 +51,7 @@ fn next(text: &[u8], plan: Shown, here: Place, output: &mut Output) -> Place
             at: from + slot.used,
             entries: here.entries,
         },
+        // (It does not come to that: the text is in the layout.)
         None => here,
     }
 }
@@ -64,6 +65,7 @@ pub fn all(text: &[u8], plan: Shown, output: &mut Output)
         at: csv_text::HEADER,
         entries: 0,
     };
+    // (How far the text is read is told by the record that was read, so this stays a loop.)
     while here.at + 2 < text.len() {
         here = next(text, plan, here, output);
     }

@@ -8,7 +8,7 @@ use catalogue::{Lent, Settings};
 // Root 0, cargo, cycles forbidden.
 const SETTINGS: Settings = Settings {
     root: 0,
-    mode: 1,
+    mode: plan::packages::CARGO,
     cycles: 0,
 };
 

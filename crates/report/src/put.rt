@@ -37,6 +37,7 @@ impl Output<'_> {
     }
 
     // A number in decimal and CR LF.
+    // (Two digits by hand: what is promised is the bytes themselves, `decimal`.)
     fn line(&mut self, number: u8)
         requires { Room self.old 4 }
         ensures { Adds self.old (decimal number ++ crlf) self.new }

@@ -79,11 +79,9 @@ fn root_alone(root: u32) -> Node
 
 // The first number that a floor comes to, and no more than a bound.
 fn first_of(ground: Ground, unit: u64, top: u32) -> u32 {
-    if unit == 0 {
-        return 0;
-    }
-    let first = ground.sum.saturating_sub(ground.credit) / unit;
-    first.min(top as u64) as u32
+    let most = u64::from(top);
+    let first = ground.sum.saturating_sub(ground.credit).checked_div(unit);
+    first.map_or(0, |first| first.min(most) as u32)
 }
 
 // A bound to begin with: the floor of the node, or the given plan's cost. No promise rests on it.
@@ -93,10 +91,7 @@ fn guess(facts: &Facts, given: Option<Given>, must: u64, left: &[u64; 256], top:
     let mut price = [0u64; 64];
     let ground = lay(&facts.rates, &facts.spans, must, left, &mut price);
     let low = first_of(ground, facts.rates.scale.first, top);
-    match given {
-        Some(known) => low.max(known.cost.first),
-        None => low,
-    }
+    given.map_or(low, |known| low.max(known.cost.first))
 }
 
 // One round.
@@ -146,6 +141,7 @@ fn rounds(
 {
     let mut bound = guess(facts, given, node.must, left, top);
     let mut more: u32 = 1;
+    // (The bound and its step are carried from round to round, and the last bound ends it, so this stays a loop.)
     loop {
         bound = raised(bound, more, top);
         let best = round(problem, facts, given, node, left, bound, plan);

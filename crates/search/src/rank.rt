@@ -35,6 +35,7 @@ pub fn rank_of(must: u64, choices: u64, price: &[u64; 64]) -> Rank {
 }
 
 // Whether a slot is decided before an earlier one: of two that cost nothing it is not, else the lower rank comes first.
+// (A cost of nothing is u64::MAX when it is turned over.)
 fn sooner(late: Rank, early: Rank) -> bool {
     let free = late.cheap == u64::MAX && early.cheap == u64::MAX;
     !free && late < early

@@ -63,6 +63,7 @@ pub fn walk(
     let mut left = *choices;
     let mut found = limit;
     let mut price = [0u64; 64];
+    // (What is narrowed next is made in the loop, so this is no `for`.)
     while let Some(next) = narrow(problem, facts, found, plan, at, &mut left, &mut price) {
         at = next;
         match pick(problem.slots, at.must, &left, &price) {

@@ -1,7 +1,6 @@
 -- `node::ceiling::ceiling` meets its contract.
 use borrow.Author.Rules.{rules}
 use Prim.Native.Nat.{◌/◌, ◌≤◌}
-use native.Mathlib.Omega.{arith}
 use lib.ListN.{length}
 use Rattle.basis.proofs.Answers.{fails}
 use Rattle.node.proofs.Lower.{ceils_bound, ceils_tied, ceils_past}

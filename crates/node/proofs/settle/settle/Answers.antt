@@ -1,5 +1,4 @@
 -- `node::settle::settle` meets its contract: the entries passed are settled.
-use native.Mathlib.Omega.{arith}
 use Rattle.bitset.proofs.MemberWalk.{walk_on}
 use Rattle.bitset.proofs.Subsets.{lowest_below}
 use Rattle.catalogue.proofs.Spanned.{span_owner}
