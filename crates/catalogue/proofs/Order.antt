@@ -1,18 +1,23 @@
 -- The number of the first row that applies, row by row and list by list; and the three steps of a survey put together to the rows of every call.
 use mathlib.Core.Path.{◌≡◌, refl}
 use mathlib.Core.Bool.{Bool, true, false}
-use mathlib.Core.List.{◌∷◌}
+use mathlib.Core.List.{[], ◌∷◌}
 use mathlib.Core.Logic.{◌⊎◌, inl, inr}
 use Prim.Native.Nat.{ℕ, ◌≤◌, ◌<◌}
 use native.Mathlib.Omega.{arith}
 use lib.ListN.{length}
+use Rattle.std.specs.Prelude.{Ok}
 use Rattle.basis.specs.Rows.{row, Gives, GivesNone}
 use Rattle.basis.specs.Tests.{Decides}
 use Rattle.basis.proofs.Answers.{holds, fails}
 use Rattle.basis.proofs.Rows.{gives_before, gives_after, none_after}
 use Rattle.catalogue.specs.Tables.{Lent, entry_count, slot_count, start_of, end_of}
 use Rattle.catalogue.specs.Refusals.{rows, EntriesMisshapen, ConstraintUnread}
-use Rattle.catalogue.specs.Steps.{Shaped, shape_rows, setup_rows}
+use Rattle.catalogue.specs.Steps.{Numbered, Shaped, shape_rows, setup_rows}
+
+-- no row
+pub none : Numbered [] (Ok tt)
+none = tt
 
 -- a row whose test came out true gives its number; after one whose test came out false the others decide
 pub applies : {b : Bool} {A Later : Type 0} {m : ℕ} → Decides b A → b ≡ true → (A × (m ≡ m)) ⊎ Later

@@ -2,7 +2,7 @@
 use mathlib.Core.Path.{◌≡◌, refl, ◌∙◌}
 use mathlib.Core.Bool.{Bool, true, false}
 use mathlib.Core.List.{List, [], ◌∷◌}
-use mathlib.Core.Logic.{◌⊎◌, inl, inr}
+use mathlib.Core.Logic.{◌⊎◌, inl, inr, ⊎_elim}
 use Prim.Native.Nat.{ℕ, zero, suc, ◌+◌, ◌-◌, ◌≤◌, ◌<◌}
 use native.Mathlib.Nat.{not-suc-le-zero}
 use native.Mathlib.Omega.{arith}
@@ -22,6 +22,10 @@ use Rattle.std.proofs.lemmas.List.FromFn.{length-range_with_len, get_or-range_wi
 use Rattle.basis.specs.Tests.{Decides}
 use Rattle.basis.proofs.Answers.{answer_yes, answer_no}
 use Rattle.basis.proofs.Decide.{decides_by, decides_or}
+
+-- none of two
+pub neither : {A B : Type 0} → ¬ A → ¬ B → ¬ (A ⊎ B)
+neither a b x = ⊎_elim a b x
 
 -- what `any` over a range of numbers tells of its run: the numbers that were denied, and the one granted or the range's end
 abbrev pub AnyRan : {F : Type 0} → Mut F (ℕ × Unit {0}) Bool → Range ℕ → Range ℕ → F → Bool → Type 0

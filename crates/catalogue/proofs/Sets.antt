@@ -1,26 +1,65 @@
--- The sets of entries that a survey makes: those that satisfy a slot's constraint, met with those of the wanted package; and the list of every slot's set, filled from
--- the front.
+-- The sets of entries that a survey makes: the entries of a package, gathered one by one; those of them that satisfy a slot's constraint; and the list of every slot's
+-- set, filled from the front.
 use mathlib.Core.Path.{◌≡◌, ◌∙◌}
 use mathlib.Core.List.{List}
+use mathlib.Core.Logic.{◌⊎◌, ◌↔◌, inl, inr, ⊎_elim}
 use Prim.Native.Nat.{ℕ, ◌+◌, ◌≤◌, ◌<◌}
 use native.Mathlib.Nat.{not-suc-le-zero}
+use native.Mathlib.Decide.{ℕ_discrete}
 use native.Mathlib.Omega.{arith}
 use lib.Bits.{bit_and}
 use lib.ListN.{length, get_or, set as store, replicate, length-set, length-replicate}
 use lib.Seq.{get_or-set_same, get_or-set_other}
 use borrow.Author.Count.{below_more}
+use Rattle.std.specs.Prelude.{Result, Err}
+use Rattle.basis.specs.declared.Refusal.{Refusal}
+use Rattle.basis.specs.declared.Refusal.TheVariants.{Constraint as Unread}
 use Rattle.bitset.specs.Bits.{Member}
+use Rattle.bitset.specs.Changes.{With}
+use Rattle.bitset.proofs.Sets.{none_in_empty}
 use Rattle.bitset.proofs.Made.{meet_members}
 use Rattle.constraint.specs.Meaning.{Constraint}
 use Rattle.constraint.specs.Spelling.{ReadAs, Readable}
 use Rattle.constraint.specs.Selection.{Picks}
 use Rattle.constraint.proofs.Unique.{read_once}
-use Rattle.catalogue.specs.Tables.{Lent, entry_count, slot_count, wanted_by, part_of}
+use Rattle.catalogue.specs.Tables.{Lent, entry_count, package_of, slot_count, wanted_by, part_of}
 use Rattle.catalogue.specs.Refusals.{ConstraintUnread}
 use Rattle.catalogue.specs.Gives.{Fits}
 use Rattle.catalogue.specs.Survey.{Indexes}
-use Rattle.catalogue.specs.Steps.{Keys, OfPackage, FitsOf}
+use Rattle.catalogue.specs.Steps.{Keys, OfPackage, FitsOf, FindsAll}
 use Rattle.catalogue.proofs.Searches.{zero_at}
+
+module _ (L : Lent) (wanted : ℕ) where
+  -- a set with entry e too, where e is of the package
+  pub marks_with : (set e r : ℕ) → e < 64 → package_of L e ≡ wanted → With set e r
+      → (d : ℕ) → Member r d ↔ (Member set d ⊎ ((d ≡ e) × (package_of L e ≡ wanted)))
+  marks_with set e r h p w d = (λ m. from ((w.members h d).0 m), λ m. (w.members h d).1 (into m))
+    where
+      from : (d ≡ e) ⊎ Member set d → Member set d ⊎ ((d ≡ e) × (package_of L e ≡ wanted))
+      from (inl q) = inr (q, p)
+      from (inr m) = inl m
+
+      into : Member set d ⊎ ((d ≡ e) × (package_of L e ≡ wanted)) → (d ≡ e) ⊎ Member set d
+      into (inl m) = inr m
+      into (inr q) = inl q.0
+
+  pub marks_same : (set e : ℕ) → ¬ (package_of L e ≡ wanted) → (d : ℕ) → Member set d ↔ (Member set d ⊎ ((d ≡ e) × (package_of L e ≡ wanted)))
+  marks_same set e n d = (λ m. inl m, λ m. ⊎_elim (λ x. x) (λ x. absurd (n x.1)) m)
+
+  pub package_none : OfPackage L wanted 0 0
+  package_none e = (λ m. absurd (none_in_empty e m), λ x. absurd (not-suc-le-zero x.0))
+
+  pub package_more : (n set r : ℕ) → OfPackage L wanted n set → ((d : ℕ) → Member r d ↔ (Member set d ⊎ ((d ≡ n) × (package_of L n ≡ wanted))))
+      → OfPackage L wanted (n + 1) r
+  package_more n set r o k e = (λ m. from ((k e).0 m), λ x. (k e).1 (into (ℕ_discrete e n) x))
+    where
+      from : Member set e ⊎ ((e ≡ n) × (package_of L n ≡ wanted)) → (e < n + 1) × (package_of L e ≡ wanted)
+      from (inl m) = let x = (o e).0 m in (omega (arith, x.0), x.1)
+      from (inr q) = (omega (arith, q.0), rw q.0 q.1)
+
+      into : Dec (e ≡ n) → (e < n + 1) × (package_of L e ≡ wanted) → Member set e ⊎ ((e ≡ n) × (package_of L n ≡ wanted))
+      into (yes q) x = inr (q, rw q at x.1)
+      into (no f) x = inl ((o e).1 (omega (arith, x.0), x.1))
 
 module _ (L : Lent) (keys : List ℕ) (keyed : Keys L.entries keys) where
   -- the entries whose version satisfies the slot's constraint, met with those of the wanted package, are those that fit the slot
@@ -78,6 +117,9 @@ module _ (L : Lent) where
             (rw here f);
         beyond = λ s k. there s (λ q. omega arith) ∙ filled.beyond s (omega arith);
       }
+
+  pub one_unread : {a : Result (List ℕ) Refusal} (s : ℕ) (r : Refusal) → s < slot_count L → ¬ Readable (part_of L s) → r ≡ Unread → a ≡ Err r → FindsAll L a
+  one_unread s r h u e k = rw k ((s, h, u), e)
 
   pub filled_all : (fits : List ℕ) → Filled L (slot_count L) fits → (¬ ConstraintUnread L) × Indexes L fits
   filled_all fits filled = (λ u. u.2 (filled.read u.0 u.1), record { members = filled.members; beyond = filled.beyond })

@@ -47,16 +47,18 @@ past_found slots from e (Some s) h x = record { low = x.0; high = omega (arith, 
 
 -- the spans of the entries below e are stored, and the slots before `at` have lower owners
 pub record SpansTo (slots : List ℕ) (e at : ℕ) (first : List ℕ) : Type 0 where
+  pub within : (d : ℕ) → d < e → get_or first d 0 ≤ length slots / 4
   pub upto : (d s : ℕ) → d < e → s < length slots / 4 → (s < get_or first d 0) ↔ (owner_in slots s < d)
   pub before : (s : ℕ) → s < at → owner_in slots s < e
 
 pub spans_none : (slots : List ℕ) → SpansTo slots 0 0 (replicate 65 0)
-spans_none slots = record { upto = λ d s h. absurd (not-suc-le-zero h); before = λ s h. absurd (not-suc-le-zero h) }
+spans_none slots =
+    record { within = λ d h. absurd (not-suc-le-zero h); upto = λ d s h. absurd (not-suc-le-zero h); before = λ s h. absurd (not-suc-le-zero h) }
 
 pub spans_more : {slots first : List ℕ} {e at r : ℕ} → Rising slots → e < 65 → length first ≡ 65 → SpansTo slots e at first → Past slots at e r
     → SpansTo slots (e + 1) r (set first e r)
 spans_more {slots} {first} {e} {at} {r} rising h sized was past =
-    record { upto = λ d s l there. upto d s l there (ℕ_discrete d e); before = λ s l. omega (arith, lower s l (dec_lt s at)) }
+    record { within = λ d l. within d l (ℕ_discrete d e); upto = λ d s l there. upto d s l there (ℕ_discrete d e); before = λ s l. omega (arith, lower s l (dec_lt s at)) }
   where
     here : e < length first
     here = omega (arith, sized)
@@ -71,6 +73,10 @@ spans_more {slots} {first} {e} {at} {r} rising h sized was past =
         far : (s : ℕ) → s < length slots / 4 → (k : ℕ) → s ≡ r + k → e ≤ owner_in slots s
         far s there k q = rw q (omega (arith, past.stopped (omega arith), risen slots rising r k (rw q at there)))
 
+    within : (d : ℕ) → d < e + 1 → Dec (d ≡ e) → get_or (set first e r) d 0 ≤ length slots / 4
+    within d l (yes q) = rw (q, get_or-set_same first e r 0 here) past.high
+    within d l (no n) = rw (get_or-set_other first e d r 0 n) (was.within d (omega arith))
+
     upto : (d s : ℕ) → d < e + 1 → s < length slots / 4 → Dec (d ≡ e) → (s < get_or (set first e r) d 0) ↔ (owner_in slots s < d)
     upto d s l there (yes q) =
         rw (q, get_or-set_same first e r 0 here) (λ b. lower s b (dec_lt s at), λ b. at_last (dec_lt s r) b)
@@ -79,6 +85,10 @@ spans_more {slots} {first} {e} {at} {r} rising h sized was past =
         at_last (yes b) o = b
         at_last (no n) o = absurd (omega (arith, higher s there (omega arith)))
     upto d s l there (no n) = rw (get_or-set_other first e d r 0 n) (was.upto d s (omega arith) there)
+
+pub spans_end : {slots first : List ℕ} {e at : ℕ} → 65 ≤ e → length first ≡ 65 → SpansTo slots e at first → Spans slots first
+spans_end {e = e} h sized all =
+    record { sized = sized; within = λ d l. all.within d (omega arith); upto = λ d s l. all.upto d s (omega arith) }
 
 -- what is stored stays within a bound
 pub stored_within : (first : List ℕ) (e r n : ℕ) → e < length first → ((d : ℕ) → get_or first d 0 ≤ n) → r ≤ n → (d : ℕ) → get_or (set first e r) d 0 ≤ n

@@ -10,6 +10,7 @@ use crate::table::FewEntries;
 use basis::Refusal;
 
 // No text is cut before 1 to 3 are tested, and every constraint is read before 5 to 8 are.
+// (The last answer has a name, so that an edit which asks another step for it is refused for what that answers.)
 pub fn survey(lent: &Lent, room: usize) -> Result<[u64; 256], Refusal>
     ensures { Surveys (lent_of lent.now) room result }
 {
@@ -17,6 +18,7 @@ pub fn survey(lent: &Lent, room: usize) -> Result<[u64; 256], Refusal>
     let entries = FewEntries::of(lent.entries);
     let packed = keys(entries);
     let fits = index_slots(lent, &packed[..entries.count()])?;
-    setup_refusal(lent, room)?;
+    let rest = setup_refusal(lent, room);
+    rest?;
     Ok(fits)
 }

@@ -1,21 +1,18 @@
 -- What texts begin with: a beginning and another after it, and when there can be none. A reader that goes from part to part supposes nothing of what it
 -- has not read: where the first part is fixed by the text, a text begins with two parts only if the second stands right after the first.
-use mathlib.Core.Path.{◌≡◌, refl, sym, ap, ◌∙◌}
-use mathlib.Core.Bool.{Bool, true, false}
+use mathlib.Core.Path.{◌≡◌, sym, ap, ◌∙◌}
+use mathlib.Core.Bool.{Bool, false}
 use mathlib.Core.List.{List, ◌++◌, append_assoc, append_cancel_left}
-use Prim.Native.Nat.{ℕ, ◌+◌, ◌-◌}
+use Prim.Native.Nat.{ℕ, ◌+◌, ◌≤◌, ◌<◌}
+use native.Mathlib.Decide.{ℕ_discrete}
 use native.Mathlib.Nat.{add_assoc}
 use native.Mathlib.Omega.{arith}
-use lib.ListN.{length, take, drop, length-append, length-drop, take-append-drop}
-use lib.Seq.{take-add, take-append_seam, drop-drop}
-use Rattle.std.specs.List.{starts_with}
-use Rattle.std.specs.Prelude.{nat_eq}
-use Rattle.std.proofs.lemmas.Bool.{false≢true}
-use Rattle.std.proofs.lemmas.Bool.Decides.{Decides-eqb}
-use Rattle.std.proofs.lemmas.Slice.Eq.{starts_is}
+use lib.ListN.{length, get_or, take, drop, length-append, length-drop, take-append-drop}
+use lib.Seq.{take-add, take-append_seam, take-length, length-take-le, get_or-take, drop-drop}
+use Rattle.basis.specs.Tests.{Decides}
+use Rattle.basis.proofs.Answers.{fails}
 use Rattle.basis.proofs.Split.{Cut}
-use Rattle.constraint.specs.Reader.{Begins, Never, Is}
-use Rattle.constraint.proofs.Texts.{part_from}
+use Rattle.constraint.specs.Reader.{Agrees, Begins, Never, Is}
 
 -- where one text begins with an x that has P and with a y that has Q, the two are the same, and so is what follows
 abbrev pub Fixes : (List ℕ → Type 0) → (List ℕ → Type 0) → Type 0
@@ -39,6 +36,10 @@ begins_then {P} {Q} {text} {u} {w} p q =
       within = omega (arith, p.within, rw length-drop at q.within);
       holds = record { before = take u text; after = take w (drop u text); first = p.holds; second = q.holds; whole = take-add u w text };
     }
+
+-- a beginning of what follows k bytes lies within the text
+pub begins_fits : {P : List ℕ → Type 0} (text : List ℕ) {k u : ℕ} → k ≤ length text → Begins P (drop k text) u → k + u ≤ length text
+begins_fits text h b = omega (arith, rw length-drop at b.within)
 
 -- two beginnings, and another right after them
 pub begins_third : {P Q R : List ℕ → Type 0} {text : List ℕ} {u v w : ℕ} → Begins P text u → Begins Q (drop u text) v → Begins R (drop (u + v) text) w
@@ -79,22 +80,30 @@ never_third {text = text} {u = u} {v = v} f g p q n = never_then f p (never_then
 pub word_fixes : (word : List ℕ) → Fixes (Is word) (Is word)
 word_fixes word x y s t p q e = (p ∙ sym q, append_cancel_left word s t (cc))
 
--- a text that starts with a word begins with it
-pub starts_word : {text : List ℕ} (word : List ℕ) {r : Bool} → r ≡ starts_with nat_eq text word → r ≡ true → Begins (Is word) text (length word)
-starts_word {text} word e t = begins_by word _ ((starts_is Decides-eqb text word _ e).0 t) refl
+-- a text that agrees with all of a word begins with it
+pub agreed_word : {text word : List ℕ} {r : ℕ} → Agrees text word r → r ≡ length word → Begins (Is word) text (length word)
+agreed_word {text} {word} {r} a e = rw e at begun
+  where
+    begun : Begins (Is word) text r
+    begun = record { within = a.within_text; holds = a.same ∙ rw e (take-length word) }
 
--- and one that does not does not
-pub starts_no_word : {text : List ℕ} (word : List ℕ) {r : Bool} → r ≡ starts_with nat_eq text word → r ≡ false → Never (Is word) text
-starts_no_word {text} word {r} e f u b =
-    let whole : text ≡ word ++ drop u text = sym (take-append-drop u text) ∙ ap (λ (l : List ℕ). l ++ drop u text) b.holds in
-    let yes_starts : r ≡ true = (starts_is Decides-eqb text word _ e).1 _ whole in
-    false≢true (sym f ∙ yes_starts)
+-- and one that does not agree with all of it does not
+pub agreed_less : {text word : List ℕ} {r : ℕ} → Agrees text word r → ¬ (r ≡ length word) → Never (Is word) text
+agreed_less {text} {word} {r} a f u b =
+    let size : length word ≡ u = ap length (sym b.holds) ∙ length-take-le u text b.within in
+    let short : r < u = omega arith in
+    a.stops (omega arith) (omega arith) (sym (get_or-take u text r 0 short) ∙ ap (λ (l : List ℕ). get_or l r 0) b.holds)
 
--- the same of what follows k bytes of a text
-pub starts_word_from : (text : List ℕ) (k : ℕ) (word : List ℕ) {r : Bool} → r ≡ starts_with nat_eq (take (length text - k) (drop k text)) word → r ≡ true
-    → Begins (Is word) (drop k text) (length word)
-starts_word_from text k word e t = starts_word word (simp part_from at e) t
+-- so a text that begins with a word agrees with all of it
+pub agreed_all : {text word : List ℕ} {r : ℕ} → Agrees text word r → Begins (Is word) text (length word) → r ≡ length word
+agreed_all {text} {word} {r} a b = by (ℕ_discrete r (length word))
+  where
+    by : Dec (r ≡ length word) → r ≡ length word
+    by (yes e) = e
+    by (no f) = absurd (agreed_less a f (length word) b)
 
-pub starts_no_word_from : (text : List ℕ) (k : ℕ) (word : List ℕ) {r : Bool} → r ≡ starts_with nat_eq (take (length text - k) (drop k text)) word
-    → r ≡ false → Never (Is word) (drop k text)
-starts_no_word_from text k word e f = starts_no_word word (simp part_from at e) f
+-- a text that a test found not to begin with a word does not begin with it in any length
+pub never_word : {text word : List ℕ} {b : Bool} → Decides b (Begins (Is word) text (length word)) → b ≡ false → Never (Is word) text
+never_word {text} {word} d e u b =
+    let size : length word ≡ u = ap length (sym b.holds) ∙ length-take-le u text b.within in
+    fails d e (rw size b)

@@ -1,13 +1,10 @@
 -- Bounds, part by part: what opens one, then three numbers, each with the byte that ends it.
 use mathlib.Core.Path.{◌≡◌, refl, sym, ap, ◌∙◌}
-use mathlib.Core.Bool.{Bool, true, false, cond}
 use mathlib.Core.List.{List, [], ◌∷◌, ◌++◌, append_assoc}
-use Prim.Native.Nat.{ℕ, ◌+◌}
+use Prim.Native.Nat.{ℕ, ◌+◌, ◌<◌}
 use native.Mathlib.Omega.{arith}
-use lib.ListN.{drop}
-use Rattle.std.specs.Prelude.{Option, None, Some, nat_eq}
-use Rattle.std.specs.List.{starts_with, find}
-use Rattle.std.proofs.lemmas.Option.{none-some}
+use lib.ListN.{get_or, drop}
+use Rattle.std.specs.List.{AllWithin}
 use Rattle.basis.specs.Bytes.{bytes}
 use Rattle.basis.proofs.Split.{Cut}
 use Rattle.constraint.specs.declared.Version.{Version}
@@ -17,7 +14,7 @@ use Rattle.constraint.specs.Range.{bound_of}
 use Rattle.constraint.specs.Meaning.{Bound, equal, at_most, no_less, caret, Constraint, any, bound, both, either}
 use Rattle.constraint.specs.Spelling.{Bounded, Spells}
 use Rattle.constraint.specs.Reader.{Begins, Never, Is, Ended, opened, Closed, IsBound}
-use Rattle.constraint.proofs.Beginnings.{Fixes, begins_as, begins_then, begins_third, never_as, never_first, never_then, never_third, word_fixes, starts_no_word}
+use Rattle.constraint.proofs.Beginnings.{Fixes, begins_as, begins_then, begins_third, never_as, never_first, never_then, never_third, word_fixes}
 use Rattle.constraint.proofs.Fields.{ended_fixes}
 use Rattle.constraint.proofs.Unique.{bounded, told}
 
@@ -73,33 +70,25 @@ module _ {text : List ℕ} where
   closed_no_third {x = x} {y = y} p q none b =
       never_as (parts_of b) (never_third (ended_fixes 32 x b.major (omega arith)) (ended_fixes 32 y b.minor (omega arith)) p q (none b.patch))
 
+-- none of the four signs opens a bound
+pub opened_none : {text : List ℕ} → Never (Is (opened equal)) text → Never (Is (opened at_most)) text → Never (Is (opened no_less)) text
+    → Never (Is (opened caret)) text → (o : Bound) → Never (Is (opened o)) text
+opened_none a b c d equal = a
+opened_none a b c d at_most = b
+opened_none a b c d no_less = c
+opened_none a b c d caret = d
+
 -- the signs, in the order in which a text is compared with what opens a bound of each
 abbrev pub signs : List Sign
 signs = Equal ∷ AtMost ∷ AtLeast ∷ Caret ∷ []
 
--- a search that finds nothing passes over each
-not_found : (b : Bool) (s : Sign) (rest : Option Sign) → None ≡ cond b (Some s) rest → (b ≡ false) × (None ≡ rest)
-not_found true s rest e = absurd (none-some s e)
-not_found false s rest e = (refl, e)
-
-none_passes : (test : Sign → Bool) → None ≡ find test signs → (s : Sign) → test s ≡ false
-none_passes test e =
-    let first = not_found (test Equal) _ _ e in
-    let second = not_found (test AtMost) _ _ first.1 in
-    let third = not_found (test AtLeast) _ _ second.1 in
-    of_all first.0 second.0 third.0 (not_found (test Caret) _ _ third.1).0
-  where
-    of_all : test Equal ≡ false → test AtMost ≡ false → test AtLeast ≡ false → test Caret ≡ false → (s : Sign) → test s ≡ false
-    of_all a b c d Equal = a
-    of_all a b c d AtMost = b
-    of_all a b c d AtLeast = c
-    of_all a b c d Caret = d
-
--- so none of the four opens a bound
-pub opened_none : {text : List ℕ} → None ≡ find (λ (s : Sign). starts_with nat_eq text (opened (bound_of s))) signs
+-- a search among them that finds none has passed over each
+pub signs_passed : {text : List ℕ} → AllWithin (λ (s : Sign). Never (Is (opened (bound_of s))) text) signs 0 4
     → (s : Sign) → Never (Is (opened (bound_of s))) text
-opened_none {text} e s =
-    starts_no_word (opened (bound_of s)) refl (none_passes (λ (s : Sign). starts_with nat_eq text (opened (bound_of s))) e s)
+signs_passed {text} none s = opened_none (passed 0 (omega arith)) (passed 1 (omega arith)) (passed 2 (omega arith)) (passed 3 (omega arith)) (bound_of s)
+  where
+    passed : (i : ℕ) → i < 4 → Never (Is (opened (bound_of (get_or signs i Equal)))) text
+    passed i h = none i Equal (omega arith) h
 
 -- each bound is a sign's
 of_signs : (P : Bound → Type 0) → ((s : Sign) → P (bound_of s)) → (o : Bound) → P o

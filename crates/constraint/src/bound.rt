@@ -5,6 +5,7 @@ ghost use Rattle.constraint.specs.Reader.{ReadsOpening, ReadsTriple, IsBound, Pa
 use crate::keys::chosen;
 use crate::number::ended;
 use crate::range::{Sign, span};
+use crate::word::begins;
 use crate::{Spelled, Version};
 
 // Reads what opens a bound: the bracket, its sign and a space.
@@ -15,7 +16,7 @@ fn signed(rest: &[u8]) -> Option<Spelled<Sign>>
     let value = signs
         .iter()
         .copied()
-        .find(|sign| rest.starts_with(sign.opening()))?;
+        .find(|sign| begins(rest, sign.opening()))?;
     Some(Spelled {
         value,
         used: value.opening().len(),

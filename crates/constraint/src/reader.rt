@@ -6,6 +6,7 @@ ghost use Rattle.constraint.specs.Reader.{Shallow, Parses, ReadsPair};
 use crate::Spelled;
 use crate::bound::bound;
 use crate::keys::all;
+use crate::word::begins;
 
 // The sets of a pair's two sides.
 #[derive(Clone, Copy)]
@@ -23,20 +24,20 @@ pub fn constraint(rest: &[u8], keys: &[u64], left: u32) -> Option<Spelled<u64>>
     if left == 0 {
         return None;
     }
-    if rest.starts_with(b"*") {
+    if begins(rest, b"*") {
         return Some(Spelled {
             value: all(keys.len()),
             used: 1,
         });
     }
-    if rest.starts_with(b"(and ") {
+    if begins(rest, b"(and ") {
         let sides = pair(&rest[5..], keys, left - 1)?;
         return Some(Spelled {
             value: sides.value.one & sides.value.other,
             used: sides.used + 5,
         });
     }
-    if rest.starts_with(b"(or ") {
+    if begins(rest, b"(or ") {
         let sides = pair(&rest[4..], keys, left - 1)?;
         return Some(Spelled {
             value: sides.value.one | sides.value.other,
@@ -53,13 +54,13 @@ fn pair(rest: &[u8], keys: &[u64], left: u32) -> Option<Spelled<Sides>>
     ensures { ReadsPair left rest.now keys.now result }
 {
     let one = constraint(rest, keys, left)?;
-    if !rest[one.used..].starts_with(b" ") {
+    if !begins(&rest[one.used..], b" ") {
         return None;
     }
     let middle = one.used + 1;
     let other = constraint(&rest[middle..], keys, left)?;
     let close = middle + other.used;
-    if !rest[close..].starts_with(b")") {
+    if !begins(&rest[close..], b")") {
         return None;
     }
     let value = Sides {

@@ -1,6 +1,7 @@
 -- Fields: runs of bytes of one kind, names and numbers in front of a sign. A field that stands in front of a byte of another kind is the whole run.
 use mathlib.Core.Path.{◌≡◌, refl, sym, ap, ◌∙◌}
 use mathlib.Core.List.{List, [], ◌∷◌, ◌++◌, append_assoc, nil≢cons, head-eq_of_cons-eq, tail-eq_of_cons-eq}
+use mathlib.Core.Logic.{◌⊎◌, inl, inr}
 use Prim.Native.Nat.{ℕ, zero, suc, ◌+◌, ◌≤◌, ◌<◌}
 use native.Mathlib.Nat.{not-suc-le-zero}
 use native.Mathlib.Decide.{dec_lt}
@@ -15,9 +16,29 @@ use Rattle.basis.specs.Bytes.{All}
 use Rattle.basis.proofs.Runs.{Stops, run_stops, run_ends}
 use Rattle.constraint.specs.Numeral.{Digit, Numeral, value}
 use Rattle.constraint.specs.Reader.{Begins, Never, Ended}
-use Rattle.csv_text.specs.Layout.{NameByte, Name, Number}
+use Rattle.csv_text.specs.Layout.{NameByte, Name, FieldByte, Number}
 use Rattle.csv_text.specs.Reader.{Run, NoField, FieldFound}
 use Rattle.csv_text.proofs.Unique.{comma_no_name}
+
+-- a byte outside the three ranges of a name's bytes
+pub no_name_byte : (b : ℕ) → (97 ≤ b → b ≤ 122 → ⊥) → (48 ≤ b → b ≤ 57 → ⊥) → ¬ (b ≡ 45) → ¬ NameByte b
+no_name_byte b letter digit hyphen (inl h) = letter h.0 h.1
+no_name_byte b letter digit hyphen (inr (inl h)) = digit h.0 h.1
+no_name_byte b letter digit hyphen (inr (inr h)) = hyphen h
+
+-- the four bytes that no field holds
+abbrev pub Reserved : ℕ → Type 0
+Reserved b = (b ≡ 10) ⊎ ((b ≡ 13) ⊎ ((b ≡ 34) ⊎ (b ≡ 44)))
+
+pub reserved_no_field : (b : ℕ) → Reserved b → ¬ FieldByte b
+reserved_no_field b (inl e) f = f.no_lf e
+reserved_no_field b (inr (inl e)) f = f.no_cr e
+reserved_no_field b (inr (inr (inl e))) f = f.no_quote e
+reserved_no_field b (inr (inr (inr e))) f = f.no_comma e
+
+pub field_byte : (b : ℕ) → ¬ Reserved b → FieldByte b
+field_byte b n =
+    record { no_comma = λ e. n (inr (inr (inr e))); no_quote = λ e. n (inr (inr (inl e))); no_cr = λ e. n (inr (inl e)); no_lf = λ e. n (inl e) }
 
 -- what a search for the first byte that has not P answers
 abbrev pub Searched : (ℕ → Type 0) → List ℕ → Option ℕ → Type 0
@@ -63,16 +84,20 @@ none_before {text = text} {u = u} f h n bs s q e = n (head-eq_of_cons-eq (sym (d
 pub none_such : {Q : List ℕ → Type 0} {a : ℕ} {text : List ℕ} (u : ℕ) → Splits Q a text u → ¬ Q (take u text) → NoField Q a text
 none_such u f n bs s q e = n (rw (f bs s q e).0 q)
 
--- a run of name bytes in front of a comma, of a name's length
-pub name_there : {text : List ℕ} {u : ℕ} → Run NameByte text u → ¬ (u ≡ 0) → u ≤ 32 → u < length text → get_or text u 0 ≡ 44 → FieldFound Name 44 text u
-name_there {text} {u} r filled short h e =
+-- what stands in front of the byte is found
+pub found_there : {Q : List ℕ → Type 0} {a : ℕ} {text : List ℕ} {u : ℕ} → u < length text → get_or text u 0 ≡ a → Q (take u text) → FieldFound Q a text u
+found_there {Q} {a} {text} {u} h e q =
     record {
       bs = take u text;
       rest = drop (suc u) text;
-      is = record { filled = omega (arith, size); short = omega (arith, size); plain = r.each };
+      is = q;
       whole = sym (take-append-drop u text) ∙ ap (λ (t : List ℕ). take u text ++ t) (drop-cons text u 0 h ∙ ap (λ (b : ℕ). b ∷ drop (suc u) text) e);
-      size = sym size;
+      size = sym (length-take-le u text (omega arith));
     }
+
+-- a run of name bytes in front of a comma, of a name's length
+pub name_there : {text : List ℕ} {u : ℕ} → Run NameByte text u → ¬ (u ≡ 0) → u ≤ 32 → u < length text → get_or text u 0 ≡ 44 → FieldFound Name 44 text u
+name_there {text} {u} r filled short h e = found_there h e (record { filled = omega (arith, size); short = omega (arith, size); plain = r.each })
   where
     size : length (take u text) ≡ u
     size = length-take-le u text (omega arith)

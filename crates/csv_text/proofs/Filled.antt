@@ -74,7 +74,7 @@ module _ {text lent_entries lent_slots : List ℕ} {lines done : List Line} {p :
   name_room =
       omega (
         arith,
-        sym (known_length names g.room) ∙ ap length g.named,
+        sym (known_length text names g.room) ∙ ap length g.named,
         distinct_few (map name_of done),
         length-map done name_of,
         counts_length done,
@@ -85,11 +85,11 @@ module _ {text lent_entries lent_slots : List ℕ} {lines done : List Line} {p :
 
   -- a name's number is its place among all packages
   module _ (line : Line) (more : List Line) (is : lines ≡ done ++ (line ∷ more)) {name : List ℕ} (called : name ≡ name_of line)
-      {r : ℕ} {names' : Names} (n : Numbers names name r names') where
+      {r : ℕ} {names' : Names} (n : Numbers text names name r names') where
     place_final : r ≡ place (packages lines) (name_of line)
     place_final = n.placed ∙ cc (g.named, called) ∙ sym (package_placed lines done more line is)
 
-    named_then : known names' ≡ packages (done then line)
+    named_then : known text names' ≡ packages (done then line)
     named_then = n.grown ∙ cc (g.named, called) ∙ sym (packages_then done line)
 
   entries_size : length entries ≡ 320
@@ -245,7 +245,7 @@ no_line_left v never =
     never x.line tt (next_ok g.limited.lays x) (body x.more ++ x.ending) (lines_at_end x.more x.ending x.ends) x.rest
 
 -- before the first line
-pub filling_none : {text entries slots : List ℕ} {names : Names} (v : Fillable text entries slots) → known names ≡ [] → Room names
+pub filling_none : {text entries slots : List ℕ} {names : Names} (v : Fillable text entries slots) → known text names ≡ [] → Room text names
     → Filling text entries slots v.lines [] (record { at = 39; entries = 0; slots = 0 }) names entries slots
 filling_none v empty room =
     record {

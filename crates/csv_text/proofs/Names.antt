@@ -3,7 +3,7 @@
 use mathlib.Core.Path.{◌≡◌, refl, sym, ap, ◌∙◌}
 use mathlib.Core.Bool.{Bool, true, false, ◌&&◌}
 use mathlib.Core.List.{List, [], ◌∷◌, ◌++◌, append_assoc, append-nil}
-use Prim.Native.Nat.{ℕ, suc, ◌≤◌, ◌<◌}
+use Prim.Native.Nat.{ℕ, suc, ◌+◌, ◌≤◌, ◌<◌}
 use native.Mathlib.Nat.{not-suc-le-zero}
 use native.Mathlib.Omega.{arith}
 use lib.Dec.{T, eqb, eqb_refl}
@@ -53,6 +53,26 @@ place_within (m ∷ ks) n = go (same_name m n) (place_within ks n)
     go : (b : Bool) → place ks n ≤ length ks → onward b (place ks n) ≤ suc (length ks)
     go true h = omega arith
     go false h = omega arith
+
+-- more names behind do not change it
+pub place_kept : (ks ms : List (List ℕ)) (n : List ℕ) → place ks n < length ks → place (ks ++ ms) n ≡ place ks n
+place_kept [] ms n h = absurd (not-suc-le-zero h)
+place_kept (m ∷ ks) ms n h = go (same_name m n) h (place_kept ks ms n)
+  where
+    go : (b : Bool) → onward b (place ks n) < suc (length ks) → (place ks n < length ks → place (ks ++ ms) n ≡ place ks n)
+        → onward b (place (ks ++ ms) n) ≡ onward b (place ks n)
+    go true l r = refl
+    go false l r = ap suc (r (omega arith))
+
+-- and a new name is numbered behind them
+pub place_new : (ks : List (List ℕ)) (m n : List ℕ) → place ks n ≡ length ks → place (ks ++ (m ∷ [])) n ≡ length ks + onward (same_name m n) 0
+place_new [] m n e = omega arith
+place_new (k ∷ ks) m n e = go (same_name k n) e (place_new ks m n)
+  where
+    go : (b : Bool) → onward b (place ks n) ≡ suc (length ks) → (place ks n ≡ length ks → place (ks ++ (m ∷ [])) n ≡ length ks + onward (same_name m n) 0)
+        → onward b (place (ks ++ (m ∷ [])) n) ≡ suc (length ks) + onward (same_name m n) 0
+    go true f r = absurd (omega arith)
+    go false f r = omega (arith, r (omega arith))
 
 -- names with a further one
 pub grow_known : (ks : List (List ℕ)) (n : List ℕ) → place ks n < length ks → grow ks n ≡ ks

@@ -21,8 +21,8 @@ pub record Filling (text lent_entries lent_slots : List ℕ) (lines done : List 
   pub walked : Walked text done p.at
   pub declared : p.entries ≡ entry_count done
   pub wanted : p.slots ≡ slot_count done
-  pub named : known names ≡ packages done
-  pub room : Room names
+  pub named : known text names ≡ packages done
+  pub room : Room text names
   pub entry_size : length lent_entries ≡ 320
   pub slot_size : length lent_slots ≡ 1024
   pub entered : entries ≡ entry_rows (packages lines) done ++ drop (5 * entry_count done) lent_entries
@@ -60,7 +60,7 @@ over table at row = take at table ++ (row ++ drop (at + length row) table)
 
 -- there is room for the name and the numbers of an entry's line, which begins behind the CR LF at `at`
 pub record EntryRoom (text : List ℕ) (p : Progress) (e : EntryParts) (names : Names) (entries : List ℕ) : Type 0 where
-  pub room : Room names
+  pub room : Room text names
   pub name_room : names.count < 320
   pub row_room : 5 * p.entries + 5 ≤ length entries
   pub within : p.at + 2 + e.used ≤ length text
@@ -69,13 +69,13 @@ pub record EntryRoom (text : List ℕ) (p : Progress) (e : EntryParts) (names : 
 -- the name is numbered, and the numbers are written
 pub record Declares (text : List ℕ) (p : Progress) (e : EntryParts) (names : Names) (entries : List ℕ) (r : Progress) (names' : Names) (entries' : List ℕ) : Type 0 where
   pub number : ℕ
-  pub numbers : Numbers names (part text (p.at + 2) (p.at + 2 + e.name)) number names'
+  pub numbers : Numbers text names (part text (p.at + 2) (p.at + 2 + e.name)) number names'
   pub row : entries' ≡ over entries (5 * p.entries) (number ∷ e.version.major ∷ e.version.minor ∷ e.version.patch ∷ e.weight ∷ [])
   pub reached : r ≡ record { at = p.at + 2 + e.used; entries = p.entries + 1; slots = p.slots }
 
 -- the same of a slot's line, which has an owner
 pub record SlotRoom (text : List ℕ) (p : Progress) (e : SlotParts) (names : Names) (slots : List ℕ) : Type 0 where
-  pub room : Room names
+  pub room : Room text names
   pub name_room : names.count < 320
   pub row_room : 4 * p.slots + 4 ≤ length slots
   pub within : p.at + 2 + e.used ≤ length text
@@ -86,7 +86,7 @@ pub record SlotRoom (text : List ℕ) (p : Progress) (e : SlotParts) (names : Na
 
 pub record Wants (text : List ℕ) (p : Progress) (e : SlotParts) (names : Names) (slots : List ℕ) (r : Progress) (names' : Names) (slots' : List ℕ) : Type 0 where
   pub number : ℕ
-  pub numbers : Numbers names (part text (p.at + 2 + 3) (p.at + 2 + 3 + e.name)) number names'
+  pub numbers : Numbers text names (part text (p.at + 2 + 3) (p.at + 2 + 3 + e.name)) number names'
   pub row : slots' ≡ over slots (4 * p.slots)
       ((p.entries - 1) ∷ number ∷ (p.at + 2 + 3 + e.name + 1) ∷ (p.at + 2 + 3 + e.name + 1 + e.constraint) ∷ [])
   pub reached : r ≡ record { at = p.at + 2 + e.used; entries = p.entries; slots = p.slots + 1 }

@@ -7,11 +7,11 @@ use crate::line::{EntryParts, Record, SlotParts};
 use crate::packages::Names;
 
 // Past an entry's line, whose five numbers are written behind those before it.
-fn declare<'a>(
-    text: &'a [u8],
+fn declare(
+    text: &[u8],
     here: Progress,
     entry: EntryParts,
-    names: &mut Names<'a>,
+    names: &mut Names,
     entries: &mut [u16],
 ) -> Progress
     requires { EntryRoom text.now here entry names.old entries.old }
@@ -19,7 +19,7 @@ fn declare<'a>(
 {
     let from = here.at + 2;
     let name_end = from + entry.name;
-    let package = names.number(&text[from..name_end]);
+    let package = names.number(text, from, name_end);
     let row = 5 * here.entries;
     entries[row..row + 5].copy_from_slice(&[
         package as u16,
@@ -36,11 +36,11 @@ fn declare<'a>(
 }
 
 // Past a slot's line. Its owner is the entry last declared.
-fn want<'a>(
-    text: &'a [u8],
+fn want(
+    text: &[u8],
     here: Progress,
     slot: SlotParts,
-    names: &mut Names<'a>,
+    names: &mut Names,
     slots: &mut [u16],
 ) -> Progress
     requires { SlotRoom text.now here slot names.old slots.old }
@@ -49,7 +49,7 @@ fn want<'a>(
     let from = here.at + 2;
     let name = from + 3;
     let name_end = name + slot.name;
-    let package = names.number(&text[name..name_end]);
+    let package = names.number(text, name, name_end);
     let owner = here.entries - 1;
     let start = name_end + 1;
     let end = start + slot.constraint;
@@ -63,10 +63,10 @@ fn want<'a>(
 }
 
 // Past one line more.
-fn next<'a>(
-    text: &'a [u8],
+fn next(
+    text: &[u8],
     here: Progress,
-    names: &mut Names<'a>,
+    names: &mut Names,
     entries: &mut [u16],
     slots: &mut [u16],
 ) -> Progress

@@ -46,6 +46,10 @@ module _ (L : Lent) (room stage : ℕ) where
   closing_eleven s h =
       record { gives = λ k. gives_after (rows L room) _ 11 (survey_sane L room s).0 (inr ((λ m. omega arith), inl (omega arith, refl))) }
 
+-- the same at an equal stage
+pub closing_at : {L : Lent} {room stage stage' : ℕ} {f : Refusal} → Closing L room stage f → stage ≡ stage' → Closing L room stage' f
+closing_at c same = rw (← same) c
+
 -- the record moved on by a refusal, and by a plan
 kept_of : {r r' : ListingRecord} (f : Refusal) → MovesOn r (Err f) r' → Kept r (refusal_number f) r'
 kept_of f (refused_with {f = g} e k) = let its : f ≡ g = cc in rw its k

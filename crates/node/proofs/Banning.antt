@@ -1,7 +1,7 @@
 -- A node with more entries banned: what makes it so, and that no plan is lost where no plan has one of them.
 use mathlib.Core.Path.{◌≡◌, refl}
 use mathlib.Core.List.{List}
-use mathlib.Core.Logic.{◌⊎◌, ⊎_elim}
+use mathlib.Core.Logic.{⊎_elim}
 use Rattle.std.specs.Prelude.{Option, Some, None}
 use Prim.Native.Nat.{ℕ, ◌<◌}
 use lib.Bits.{bit_and, bit_or}
@@ -9,7 +9,7 @@ use lib.ListN.{get_or}
 use Rattle.bitset.specs.Bits.{Member}
 use Rattle.bitset.proofs.Least.{some_member}
 use Rattle.bitset.proofs.Made.{meet_members, join_members}
-use Rattle.bitset.proofs.Sets.{not_empty}
+use Rattle.bitset.proofs.Sets.{not_empty, none_in_empty}
 use Rattle.pacsolve.specs.Problem.{Problem}
 use Rattle.pacsolve.specs.Plan.{Plan, chosen, MemberOf}
 use Rattle.pacsolve.specs.Listing.{Good}
@@ -17,6 +17,7 @@ use Rattle.node.specs.declared.Node.{Node}
 use Rattle.node.specs.Banning.{Bans, none_left, some_left}
 use Rattle.node.specs.Sought.{Inside}
 use Rattle.node.specs.Steps.{NoneGained, Fewer, Settled}
+use Rattle.node.proofs.Left.{gained_none}
 
 -- the bans joined: something must be there that must not, or the node is left
 module _ (must ban out : ℕ) where
@@ -68,3 +69,7 @@ settled_banned p b less none =
       fewer = banned_fewer b less;
       keeps = λ P g i. let x = none P g i in banned_kept p b P i x.0 x.1;
     }
+
+-- nothing more is banned
+pub settled_same : (p : Problem) {node : Node} {r : Option Node} {choices : List ℕ} → Bans node 0 r → Settled p node r choices choices
+settled_same p b = settled_banned p b gained_none (λ P g i. (λ e m. absurd (none_in_empty e m), i.names))

@@ -1,5 +1,5 @@
 -- Steps one after the other: what each keeps all keep. And what a step promises of all good plans, as a promise about those that are sought.
-use mathlib.Core.Path.{refl}
+use mathlib.Core.Path.{◌≡◌, refl}
 use mathlib.Core.List.{List}
 use Rattle.std.specs.Prelude.{Option, Some}
 use Prim.Native.Nat.{ℕ}
@@ -14,7 +14,7 @@ use Rattle.node.specs.Settling.{SettledBy}
 use Rattle.node.specs.Sought.{Limit, Inside}
 use Rattle.node.specs.Steps.{Settled}
 use Rattle.node.specs.Narrowing.{Ready, Narrowed}
-use Rattle.node.proofs.Left.{gained_then, fewer_then, at_left}
+use Rattle.node.proofs.Left.{gained_none, gained_then, fewer_then, fewer_left, at_left}
 use Rattle.node.proofs.Slotted.{tabled_slotted}
 use Rattle.node.proofs.Settling.{settled_for}
 
@@ -36,6 +36,15 @@ settled_tabled entries slots settings objectives fits s =
 module _ {p : Problem} {q : Asked} {lim : Limit} where
   pub narrowed_by : {a : Node} {b : Option Node} {x y : List ℕ} → Settled p a b x y → Narrowed p q lim a x b y
   narrowed_by s = record { less = s.less; fewer = s.fewer; keeps = λ P sought. s.keeps P sought.good sought.inside }
+
+  -- nothing is dropped
+  pub narrowed_none : {a b : Node} {x : List ℕ} → b.must ≡ a.must → b.ban ≡ a.ban → Narrowed p q lim a x (Some b) x
+  narrowed_none {a} {b} m n =
+      record {
+        less = gained_none;
+        fewer = fewer_left (record { more = λ e k. rw m k; fewer = λ s e k. k; sized = refl });
+        keeps = λ P s. (b, refl, record { has = λ e k. s.inside.has e (rw m at k); lacks = λ e k. s.inside.lacks e (rw n at k); names = s.inside.names });
+      }
 
   pub narrowed_then : {a b : Node} {c : Option Node} {x y z : List ℕ} → Narrowed p q lim a x (Some b) y → Narrowed p q lim b y c z → Narrowed p q lim a x c z
   narrowed_then {b = b} {y = y} f g =

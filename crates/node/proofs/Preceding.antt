@@ -8,18 +8,32 @@ use Rattle.std.proofs.Common.{Ordering, Less, Equal, Greater}
 use Rattle.std.specs.Ordering.{MatchOrdering, nat_cmp, is_lt, is_some_and, partial_ordering_then}
 use Rattle.std.proofs.lemmas.Cmp.{ranked}
 use Prim.Native.Nat.{ℕ, ◌<◌}
+use native.Mathlib.Decide.{ℕ_discrete, dec_lt}
 use native.Mathlib.Omega.{arith}
+use lib.Dec.{ltb}
+use lib.ListN.{length, get_or}
 use Rattle.basis.specs.Tests.{Decides}
 use Rattle.basis.proofs.Answers.{answer_yes, answer_no}
-use Rattle.basis.proofs.Decide.{decides_by}
+use Rattle.basis.proofs.Decide.{decides_by, decides_lt}
 use Rattle.pacsolve.specs.declared.Cost.{Cost}
 use Rattle.pacsolve.specs.Problem.{Problem}
 use Rattle.pacsolve.specs.Plan.{Plan}
 use Rattle.pacsolve.specs.Cost.{cost, numbers}
 use Rattle.pacsolve.specs.Order.{Earlier, lower, Precedes, cheaper, tied}
-use Rattle.pacsolve.proofs.Order.{earlier_cases, earlier_irrefl}
+use Rattle.pacsolve.proofs.Order.{earlier_cases, earlier_irrefl, earlier_total, same_numbers}
 use Rattle.node.specs.Order.{Ahead}
-use Rattle.node.proofs.Compared.{same_first, ended_first}
+use Rattle.node.proofs.Compared.{same_first, ended_first, Alike, earlier_at, not_earlier_at}
+
+-- lists that are alike up to i compare as their numbers at i, unless those are equal and more could follow
+pub compares_at : (s t : List ℕ) (i : ℕ) → i < length s → i < length t → Alike s t i → (get_or s i 0 ≡ get_or t i 0 → ¬ Earlier s t)
+    → Decides (ltb (get_or s i 0) (get_or t i 0)) (Earlier s t)
+compares_at s t i h l k same =
+    decides_by (earlier_at s t i h l k) (λ e. lower_at e (dec_lt (get_or s i 0) (get_or t i 0)) (ℕ_discrete (get_or s i 0) (get_or t i 0))) (decides_lt _ _)
+  where
+    lower_at : Earlier s t → Dec (get_or s i 0 < get_or t i 0) → Dec (get_or s i 0 ≡ get_or t i 0) → get_or s i 0 < get_or t i 0
+    lower_at e (yes x) y = x
+    lower_at e (no n) (yes y) = absurd (same y e)
+    lower_at e (no n) (no m) = absurd (not_earlier_at s t i k (omega arith) e)
 
 -- an order that takes up the rest where two numbers are equal tells which list is earlier, as far as it tells so of what follows
 module _ {a b : ℕ} {s t : List ℕ} where
@@ -52,6 +66,15 @@ pub cost_lower : (a b : Cost) {r : Bool}
     → r ≡ is_some_and is_lt (partial_ordering_then (Some (nat_cmp a.first b.first)) (partial_ordering_then (Some (nat_cmp a.second b.second)) (Some (nat_cmp a.third b.third))))
     → Decides r (Earlier (numbers a) (numbers b))
 cost_lower a b e = rw e (number_then _ (number_then _ (number_last (ended_first [] [] (inl refl)))))
+
+-- costs neither of which is lower are equal
+pub neither_lower : (a b : Cost) → ¬ Earlier (numbers a) (numbers b) → ¬ Earlier (numbers b) (numbers a) → a ≡ b
+neither_lower a b n m = go (earlier_total (numbers a) (numbers b) refl)
+  where
+    go : Earlier (numbers a) (numbers b) ⊎ ((numbers a ≡ numbers b) ⊎ Earlier (numbers b) (numbers a)) → a ≡ b
+    go (inl x) = absurd (n x)
+    go (inr (inl x)) = same_numbers a b x
+    go (inr (inr x)) = absurd (m x)
 
 module _ {a b : Cost} {s t : List ℕ} where
   -- at equal cost the tables decide

@@ -23,6 +23,14 @@ use Rattle.node.proofs.Banning.{banned_fewer}
 use Rattle.node.proofs.Left.{gained_none, fewer_then, at_left}
 use Rattle.node.proofs.Stores.{stored_fewer, stored_keeps}
 
+-- a set with one member more has all that it had, and nothing else but that member
+pub with_more : {set e r : ℕ} → With set e r → (d : ℕ) → Member set d → Member r d
+with_more {set} {e} {r} w d m = go (dec_lt e 64)
+  where
+    go : Dec (e < 64) → Member r d
+    go (yes l) = (w.members l d).1 (inr m)
+    go (no n) = rw (w.beyond (omega arith)) m
+
 pub with_only : {set e r : ℕ} → With set e r → (d : ℕ) → Member r d → (d ≡ e) ⊎ Member set d
 with_only {set} {e} {r} w d m = go (dec_lt e 64)
   where

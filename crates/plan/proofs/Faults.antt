@@ -1,5 +1,5 @@
--- The first fault of a plan, where it is the fifth or the sixth condition that does not hold. Two problems whose conditions hold of the same plans have the
--- same faults. A condition and its number tell each other.
+-- The first fault of a plan, by the first condition that does not hold. Two problems whose conditions hold of the same plans have the same faults. A condition and
+-- its number tell each other.
 use mathlib.Core.Path.{◌≡◌, refl, sym, ap, ◌∙◌}
 use mathlib.Core.Logic.{◌⊎◌, ◌↔◌, inl, inr, ⊎_elim}
 use Prim.Native.Nat.{ℕ, zero, suc}
@@ -10,6 +10,18 @@ use Rattle.pacsolve.specs.declared.Condition.{Condition}
 use Rattle.pacsolve.specs.declared.Condition.TheVariants as condition
 use Rattle.pacsolve.specs.Problem.{Problem}
 use Rattle.pacsolve.specs.Plan.{Plan, Rooted, Reached, Named, Fitting, Consistent, Acyclic, faults, condition_number}
+
+pub fault_1 : (p : Problem) (P : Plan) → ¬ Rooted p P → Gives (faults p P) 1
+fault_1 p P n = inl (n, refl)
+
+pub fault_2 : (p : Problem) (P : Plan) → Rooted p P → ¬ Reached p P → Gives (faults p P) 2
+fault_2 p P one n = inr (λ x. x one, inl (n, refl))
+
+pub fault_3 : (p : Problem) (P : Plan) → Rooted p P → Reached p P → ¬ Named p P → Gives (faults p P) 3
+fault_3 p P one two n = inr (λ x. x one, inr (λ x. x two, inl (n, refl)))
+
+pub fault_4 : (p : Problem) (P : Plan) → Rooted p P → Reached p P → Named p P → ¬ Fitting p P → Gives (faults p P) 4
+fault_4 p P one two three n = inr (λ x. x one, inr (λ x. x two, inr (λ x. x three, inl (n, refl))))
 
 module _ (p : Problem) (P : Plan) (one : Rooted p P) (two : Reached p P) (three : Named p P) (four : Fitting p P) where
   pub fault_5 : ¬ Consistent p P → Gives (faults p P) 5

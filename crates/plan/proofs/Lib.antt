@@ -12,3 +12,4 @@ pub mod SlotTests
 pub mod Tables
 pub mod Totals
 pub mod Trails
+pub mod Unseen

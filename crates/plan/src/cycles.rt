@@ -1,7 +1,8 @@
 // Condition 6: no walk of one chosen slot or more returns to where it began. The steps of a plan stand in 64 rows of 64 bits, row d for the entries that d steps
 // to, and are closed in place: by way of each member in turn, each row that holds it takes up what its row holds.
-ghost use Rattle.std.specs.Prelude.{◌≡◌, ℕ, ◌<◌};
+ghost use Rattle.std.specs.Prelude.{◌≡◌, List, ℕ, ◌<◌};
 ghost use Rattle.basis.specs.Tests.{Decides};
+ghost use Rattle.catalogue.specs.Survey.{tabled};
 ghost use Rattle.pacsolve.specs.Plan.{plan_of, Acyclic};
 ghost use Rattle.plan.specs.Closure.{Holds, Links, Through, Passes, Steps, Trails};
 ghost use Rattle.plan.specs.Posing.{problem_by};
@@ -72,7 +73,7 @@ fn loopless(rows: &[u64; 64]) -> bool
 
 // Condition 6. Where cycles are allowed, no walk is looked at.
 pub fn acyclic(problem: &Problem, plan: &Plan) -> bool
-    ensures { Decides result (Acyclic (problem_by problem.now) (plan_of plan.now)) }
+    ensures { (entries objectives fits : List ℕ) → Decides result (Acyclic (tabled entries problem.now.slots.now problem.now.settings objectives fits) (plan_of plan.now)) }
 {
     problem.settings.cycles != 0 || loopless(&trails(problem, plan))
 }

@@ -1,4 +1,6 @@
 // A plan of a catalogue that is not refused: the first of the six conditions that it breaks, or its cost.
+ghost use Rattle.std.specs.Prelude.{List, ℕ};
+ghost use Rattle.catalogue.specs.Survey.{tabled};
 ghost use Rattle.pacsolve.specs.Plan.{plan_of};
 ghost use Rattle.plan.specs.Judged.{FirstFault, Judges};
 ghost use Rattle.plan.specs.Posing.{problem_by};
@@ -8,7 +10,7 @@ use pacsolve::{Condition, Cost, Plan};
 
 // The first condition that the plan breaks.
 pub fn first_fault(problem: &Problem, plan: &Plan) -> Option<Condition>
-    ensures { FirstFault (problem_by problem.now) (plan_of plan.now) result }
+    ensures { (objectives : List ℕ) → FirstFault (tabled problem.now.entries.now problem.now.slots.now problem.now.settings objectives problem.now.fits.now) (plan_of plan.now) result }
 {
     if !conditions::rooted(problem, plan) {
         return Some(Condition::Rooted);

@@ -1,5 +1,7 @@
 // Condition 2: every member is reached from the root. What is reached grows along the chosen slots, from members to members, until a round adds nothing.
+ghost use Rattle.std.specs.Prelude.{List, ℕ};
 ghost use Rattle.basis.specs.Tests.{Decides};
+ghost use Rattle.catalogue.specs.Survey.{tabled};
 ghost use Rattle.pacsolve.specs.Plan.{plan_of, Reached};
 ghost use Rattle.plan.specs.Growth.{Joins, Rounds, Grown};
 ghost use Rattle.plan.specs.Posing.{problem_by};
@@ -53,7 +55,7 @@ fn grown(problem: &Problem, plan: &Plan) -> u64
 
 // Condition 2.
 pub fn reached(problem: &Problem, plan: &Plan) -> bool
-    ensures { Decides result (Reached (problem_by problem.now) (plan_of plan.now)) }
+    ensures { (entries objectives fits : List ℕ) → Decides result (Reached (tabled entries problem.now.slots.now problem.now.settings objectives fits) (plan_of plan.now)) }
 {
     grown(problem, plan) == plan.set
 }

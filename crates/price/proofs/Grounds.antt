@@ -1,10 +1,12 @@
 -- The floor of a node: what is drawn from the prices of its packages bounds the worth of every plan inside it.
-use mathlib.Core.Path.{refl}
+use mathlib.Core.Path.{◌≡◌, refl}
 use mathlib.Core.List.{List}
-use mathlib.Core.Logic.{⊎_elim}
+use mathlib.Core.Logic.{◌⊎◌, inl, inr, ⊎_elim}
 use Prim.Native.Nat.{ℕ, ◌+◌, ◌*◌, ◌^◌, ◌≤◌, ◌<◌}
+use native.Mathlib.Decide.{dec_lt}
 use native.Mathlib.Omega.{arith}
 use lib.ListN.{get_or}
+use Rattle.bitset.specs.Bits.{Member}
 use Rattle.bitset.specs.Changes.{With}
 use Rattle.price.specs.declared.Rates.{Rates}
 use Rattle.price.specs.declared.Scale.{Scale}
@@ -17,6 +19,14 @@ use Rattle.price.specs.Floor.{Moderate, Floors, Dear}
 use Rattle.price.proofs.Bounds.{price_le, raised_low}
 use Rattle.price.proofs.Drawing.{drawn_then}
 use Rattle.price.proofs.Units.{times_le}
+
+-- one entry more, whose price is the limit or more
+pub dear_more : {dear e r its limit : ℕ} → With dear e r → limit ≤ its → (x : ℕ) → Member r x → Member dear x ⊎ ((x ≡ e) × (limit ≤ its))
+dear_more {dear} {e} {r} {its} {limit} w h x m = go (dec_lt e 64)
+  where
+    go : Dec (e < 64) → Member dear x ⊎ ((x ≡ e) × (limit ≤ its))
+    go (yes l) = ⊎_elim (λ k. inr (k, h)) (λ k. inl k) ((w.members l x).0 m)
+    go (no n) = inl (rw (w.beyond (omega arith)) at m)
 
 pub dear_on : {price : List ℕ} {limit dear e r : ℕ} → Dear price limit dear → With dear e r → e < 64 → limit ≤ get_or price e 0 → Dear price limit r
 dear_on {price} {limit} {e = e} d w small h = record { dear = λ x m. ⊎_elim (λ k. rw k h) (d.dear x) ((w.members small x).0 m) }

@@ -26,7 +26,7 @@ pub fn lay(
     ensures { Floors rates.now spans.now.first must choices.now price.new result }
 {
     let known = packages_of(must, &rates.alike);
-    *price = raised(&rates.base, known.entries, rates.scale.double);
+    price.copy_from_slice(&raised(&rates.base, known.entries, rates.scale.double));
     let fixed = pay_all(price, must);
     let shared = pay_slots(price, spans, must, choices);
     let beyond = pay_needs(price, &rates.alike, spans, must, choices);

@@ -99,6 +99,11 @@ module _ {p : Problem} {slots : List ℕ} {given : Option Given} {node : Node} {
           written = inl (_, refl);
         }
 
+-- a judgement that is no fault is that of a sound plan
+pub only_sound : (a : Result Cost Condition) → ((k : Condition) → ¬ (a ≡ Err k)) → (c : Cost) × (a ≡ Ok c)
+only_sound (Err k) n = absurd (n k refl)
+only_sound (Ok c) n = (c, refl)
+
 -- what a judgement says, by its case
 module _ {p : Problem} {set : ℕ} {table : List ℕ} {a : Result Cost Condition} where
   pub judged_unsound : {k : Condition} → Judges p set table a → a ≡ Err k → ¬ Sound p (plan set table)

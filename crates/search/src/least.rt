@@ -53,16 +53,16 @@ fn facts_of(entries: &[u16], slots: &[u16], objectives: &[u8], mode: u8) -> Fact
     requires apart { Apart objectives.now }
     ensures { FactsOf entries.now slots.now objectives.now mode result }
 {
-    let spans = SlotSpans::of(slots);
     let alike = alikes(entries);
-    let clash = clashes(entries, mode, &alike);
     let scale = scale(objectives);
-    let base = base_prices(entries, objectives, scale);
-    let rates = Rates { alike, base, scale };
     Facts {
-        spans,
-        clash,
-        rates,
+        spans: SlotSpans::of(slots),
+        clash: clashes(entries, mode, &alike),
+        rates: Rates {
+            alike,
+            base: base_prices(entries, objectives, scale),
+            scale,
+        },
     }
 }
 

@@ -16,9 +16,9 @@ index_slots-requires-clause-keys c =
 pub returns-in_err-fits : goal.returns-in_err-fits
 returns-in_err-fits c = unread_refused (lent_of c.args.lent.now) c.args.room c.in_ok-shape_refusal.ensures c.in_err-fits.ensures (search rules)
 
-pub returns-in_err-setup_refusal : goal.returns-in_err-setup_refusal
-returns-in_err-setup_refusal c =
-    setup_refused (lent_of c.args.lent.now) c.args.room c.in_ok-shape_refusal.ensures c.in_ok-fits.ensures c.in_err-setup_refusal.ensures (search rules)
+pub returns-in_err-rest : goal.returns-in_err-rest
+returns-in_err-rest c =
+    setup_refused (lent_of c.args.lent.now) c.args.room c.in_ok-shape_refusal.ensures c.in_ok-fits.ensures c.in_err-rest.ensures (search rules)
 
 pub returns : goal.returns
-returns c = none_refused (lent_of c.args.lent.now) c.args.room c.in_ok-shape_refusal.ensures c.in_ok-fits.ensures c.in_ok-setup_refusal.ensures refl
+returns c = none_refused (lent_of c.args.lent.now) c.args.room c.in_ok-shape_refusal.ensures c.in_ok-fits.ensures c.in_ok-rest.ensures refl

@@ -5,7 +5,7 @@ use Rattle.csv_text.proofs.Filled.{filling_none, all_filled}
 use Rattle.csv_text.proofs.fill.tables.Goals as goal
 
 pub loop-here-init : goal.loop-here-init
-loop-here-init c = (c.requires.lines, [], filling_none c.requires c.none-names.ensures.empty c.none-names.ensures.room, refl, refl)
+loop-here-init c = (c.requires.lines, [], filling_none c.requires (c.none-names.ensures.empty c.args.text.now) (c.none-names.ensures.room c.args.text.now c.requires.limited.lays.short), refl, refl)
 
 pub loop-here-preserved : goal.loop-here-preserved
 loop-here-preserved c =

@@ -16,6 +16,7 @@ returns c =
     let p = problem_by c.args.problem.now in
     let P = plan_of c.args.plan.now in
     let n = length c.args.problem.now.slots.now / 4 in
+    λ objectives settings.
     decides_below _ n _ _ (λ s differ. differ)
     (cases_from_all _ _ _ (FittingAt p P) (λ s. ¬ FittingAt p P s) c.all.ensures.ran (YieldsList-from_range 0 n n refl (omega arith))
     (λ x q k. search (rules, tests)) (λ x q k. search (rules, tests)))

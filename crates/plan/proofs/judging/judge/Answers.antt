@@ -4,4 +4,4 @@ use Rattle.plan.specs.Judged.{broken}
 use Rattle.plan.proofs.judging.judge.Goals as goal
 
 pub returns-in-Some : goal.returns-in-Some
-returns-in-Some c = broken c.in-Some.ensures refl
+returns-in-Some c = broken (c.in-Some.ensures c.args.problem.now.objectives.now) refl
